@@ -1,0 +1,10 @@
+//! Texts, bytes and the outside: what every crate of the tool reads from and writes to.
+#![tactic(auto)]
+
+mod bytes;
+mod memory;
+mod word;
+
+pub use bytes::Bytes;
+pub use memory::NoMemory;
+pub use word::Word;
