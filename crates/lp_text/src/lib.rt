@@ -3,8 +3,10 @@
 
 mod bytes;
 mod memory;
+mod shelf;
 mod word;
 
 pub use bytes::Bytes;
 pub use memory::NoMemory;
+pub use shelf::{LIMIT, Shelf, ShelfFault};
 pub use word::Word;
