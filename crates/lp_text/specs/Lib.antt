@@ -1,1 +1,2 @@
+pub mod Micros
 pub mod Shelf
