@@ -2,13 +2,17 @@
 #![tactic(auto)]
 
 mod bytes;
+mod counts;
 mod decimal;
+mod mem;
 mod memory;
 mod shelf;
+mod store;
 mod word;
 
 pub use bytes::Bytes;
 pub use decimal::{micros, micros_bytes};
+pub use mem::MemShelf;
 pub use memory::NoMemory;
 pub use shelf::{LIMIT, Shelf, ShelfFault};
 pub use word::Word;
