@@ -100,3 +100,21 @@ MemSays m bytes (Ok v) new = IsFalse (fails m) × (new ≡ record (counted m) { 
 MemSays m bytes (Err Failed) new = IsTrue (fails m) × (new ≡ say_missed m)
 MemSays m bytes (Err TooLong) new = ⊥
 MemSays m bytes (Err NoMemory) new = new ≡ counted m
+
+-- the counts of a shelf that never fails
+abbrev pub never_faults : Never → Faults
+never_faults m = record { read = 0; write = 0; say = 0; long = m.long }
+
+-- a read of a shelf that never fails gives the file or is too long, and memory may run out
+abbrev pub NeverReads : {T : Type 0} → (T → List ℕ) → Never → List ℕ → Result T ShelfFault → Never → Type 0
+NeverReads items m name (Ok v) new = (items v ≡ content m.files name) × (new ≡ m)
+NeverReads items m name (Err Failed) new = ⊥
+NeverReads items m name (Err TooLong) new = (LIMIT < length (content m.files name)) × (new ≡ record m { long = count_up m.long })
+NeverReads items m name (Err NoMemory) new = new ≡ m
+
+-- a call gives a new state, and else memory ran out and nothing changed
+abbrev pub NeverGives : {T : Type 0} → Never → Never → Result T ShelfFault → Never → Type 0
+NeverGives m done (Ok v) new = new ≡ done
+NeverGives m done (Err Failed) new = ⊥
+NeverGives m done (Err TooLong) new = ⊥
+NeverGives m done (Err NoMemory) new = new ≡ m
