@@ -20,3 +20,6 @@ pub use memory::NoMemory;
 pub use never::NeverFails;
 pub use shelf::{LIMIT, Shelf, ShelfFault};
 pub use word::Word;
+
+#[cfg(test)]
+mod tests;
