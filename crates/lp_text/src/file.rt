@@ -1,4 +1,5 @@
 ghost use Rattle.std.specs.Prelude.{◌≡◌, ◌≤◌, IfOk, IfErr, vec_len, None};
+ghost use Rattle.lp_text.specs.Shelf.{ReadsWhole};
 ghost use Rattle.lp_text.specs.Memory.{no_faults};
 
 use crate::counts::{Counts, count_up};
@@ -85,17 +86,29 @@ impl<F: Files, P: Print> Shelf for FileShelf<F, P> {
     }
 }
 
-/// All bytes of a file. It reads no further than one byte after the limit, so a file that grows
-/// or never ends is too long.
+/// All bytes of a file.
 fn load<F: Files>(files: &F, alloc: Global, name: &str) -> Result<Vec<u8>, ShelfFault>
     ensures limit { IfOk result (λ v. vec_len v ≤ LIMIT) }
 {
     let file = fs::open(files, name).map_err(|_| ShelfFault::Failed)?;
     let expected = file.metadata().map_or(0, |data| data.len());
+    read_whole(file, expected, alloc)
+}
+
+/// All bytes of a reader, with room made for those expected. It reads no further than one byte
+/// after the limit, so a file that grows or never ends is too long.
+fn read_whole<R: Read + Drop>(
+    reader: R,
+    expected: u64,
+    alloc: Global,
+) -> Result<Vec<u8>, ShelfFault>
+    ensures limit { IfOk result (λ v. vec_len v ≤ LIMIT) }
+    ensures contents { ReadsWhole (λ v. v.items) (R.remaining reader) result }
+{
     let mut bytes = Vec::new(alloc);
     let room = expected.min(LIMIT as u64) as usize + 1;
     bytes.reserve(room).map_err(|_| ShelfFault::NoMemory)?;
-    match file.take(LIMIT as u64 + 1).read_to_end(&mut bytes) {
+    match reader.take(LIMIT as u64 + 1).read_to_end(&mut bytes) {
         Ok(_) if bytes.len() > LIMIT => Err(ShelfFault::TooLong),
         Ok(_) => Ok(bytes),
         Err(error) if error.kind() == ErrorKind::OutOfMemory => Err(ShelfFault::NoMemory),
