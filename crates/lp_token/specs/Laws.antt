@@ -41,13 +41,13 @@ string_found l inside [] t after q h e = absurd cc
 string_found l inside (b ∷ behind) t after q h e =
     elim (cases_Bool (b == 34)) [
       | inl is ↦
-        let made : found (Quoted inside, behind) ≡ Some (t, after) = sym (cond-true (b == 34) (Some (Quoted inside, behind)) None is) ∙ e in
-        let same : b ≡ 34 = eqb-true b 34 is in
-        subst (λ (p : Token × List ℕ). Fronts l p.0 (34 ∷ (inside ++ b ∷ behind)) p.1) (some_is _ _ made) (record {
-          spelled = rw (same) (ap (λ (xs : List ℕ). 34 ∷ xs) (sym (append_assoc inside (34 ∷ []) behind)));
-          good = and_from _ _ (ap is_quote_class q) h;
-          ended = refl;
-        })
+          let made : found (Quoted inside, behind) ≡ Some (t, after) = sym (cond-true (b == 34) (Some (Quoted inside, behind)) None is) ∙ e in
+          let same : b ≡ 34 = eqb-true b 34 is in
+          subst (λ (p : Token × List ℕ). Fronts l p.0 (34 ∷ (inside ++ b ∷ behind)) p.1) (some_is _ _ made) (record {
+            spelled = rw (same) (ap (λ (xs : List ℕ). 34 ∷ xs) (sym (append_assoc inside (34 ∷ []) behind)));
+            good = and_from _ _ (ap is_quote_class q) h;
+            ended = refl;
+          })
       | inr is ↦ let none : None ≡ found (t, after) = sym (cond-false (b == 34) (Some (Quoted inside, behind)) None is) ∙ e in absurd (none_apart (t, after) none)
     ]
 
@@ -251,12 +251,12 @@ name_byte_low : (b : ℕ) → is_name_byte b ≡ true → b < 128
 name_byte_low b h =
     elim (or_cases (is_letter b || is_digit b) (b == 95) h) [
       | inl first ↦ elim (or_cases (is_letter b) (is_digit b) first) [
-          | inl letter ↦ elim (or_cases (is_between 97 122 b) (is_between 65 90 b) letter) [
-              | inl lower ↦ omega (arith, between_le 97 122 b lower)
-              | inr upper ↦ omega (arith, between_le 65 90 b upper)
-            ]
-          | inr digit ↦ omega (arith, between_le 48 57 b digit)
+        | inl letter ↦ elim (or_cases (is_between 97 122 b) (is_between 65 90 b) letter) [
+          | inl lower ↦ omega (arith, between_le 97 122 b lower)
+          | inr upper ↦ omega (arith, between_le 65 90 b upper)
         ]
+        | inr digit ↦ omega (arith, between_le 48 57 b digit)
+      ]
       | inr line ↦ omega (arith, eqb-true b 95 line)
     ]
 

@@ -7,8 +7,11 @@ use crate::token::Language;
 
 // The letters of the tables below.
 const BLANK: u8 = b'_';
+
 pub const INNER: u8 = b'w';
+
 pub const SINGLE: u8 = b'm';
+
 pub const QUOTE: u8 = b'q';
 
 // For each byte of Liberty a letter: a blank, a part of a word, a mark, the quote, or `-` for none of these.
