@@ -1,2 +1,4 @@
+pub mod Fronts
+pub mod Laws
 pub mod Reading
 pub mod Tokens
