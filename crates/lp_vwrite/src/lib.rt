@@ -7,3 +7,6 @@ mod writing;
 
 pub use laws::reads_back;
 pub use writing::write_netlist;
+
+#[cfg(test)]
+mod tests;
