@@ -1,4 +1,6 @@
 pub mod Fronts
 pub mod Laws
 pub mod Reading
+pub mod Steps
 pub mod Tokens
+pub mod View

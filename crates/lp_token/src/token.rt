@@ -6,3 +6,14 @@ pub enum Language {
     /// Structural Verilog: words are runs of letters, digits and `_`.
     Verilog,
 }
+
+/// A token of a text.
+#[derive(Clone, Copy, Debug)]
+pub enum Token<'a> {
+    /// A word: the longest run of bytes that words have.
+    Word(&'a [u8]),
+    /// A byte that is a token of its own.
+    Mark(u8),
+    /// A string, without its quotes.
+    Quoted(&'a [u8]),
+}
