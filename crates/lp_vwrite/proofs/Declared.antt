@@ -1,21 +1,21 @@
 -- The declarations that are written declare the ports in their directions and the wires, and the tree stands for the netlist.
-use Rattle.std.proofs.Common.{◌≡◌, ℕ, Bool, true, false, cond, List, [], ◌∷◌, ◌++◌, map, refl, sym, ap, ◌∙◌, append_assoc}
-use Rattle.std.specs.Prelude.{IsTrue, bytes_eq, ◌&&◌, ◌||◌, not, flat_map}
+use Rattle.std.proofs.Common.{◌≡◌, Bool, true, false, cond, List, [], ◌∷◌, ◌++◌, map, refl, sym, ap, ◌∙◌}
+use Rattle.std.specs.Prelude.{IsTrue, bytes_eq, ◌&&◌, ◌||◌, not}
 use Rattle.std.specs.List.{list_all}
-use Rattle.std.proofs.lemmas.Bool.{and_parts, and_from, or_parts, or_left, not-true, not_from_false}
+use Rattle.std.proofs.lemmas.Bool.{and_parts, and_from, or_parts, not-true, not_from_false}
 use Rattle.std.proofs.lemmas.List.{append-nil}
 use Rattle.std.proofs.lemmas.List.Concat.{flat_map-append}
-use Rattle.std.proofs.lemmas.List.Folds.{list_all-append, list_all-map}
+use Rattle.std.proofs.lemmas.List.Folds.{list_all-append}
 use Rattle.lp_token.specs.Tokens.{is_filled}
 use Rattle.lp_model.specs.declared.netlist.Direction.{Direction}
 use Rattle.lp_model.specs.declared.netlist.Direction.TheVariants.{Input, Output}
 use Rattle.lp_model.specs.declared.netlist.Port.{Port}
 use Rattle.lp_model.specs.declared.netlist.Module.{Module}
 use Rattle.lp_model.specs.Names.{Name, has_name, is_distinct}
-use Rattle.lp_model.specs.Verilog.{Kind, InputPort, OutputPort, Wire, Declaration, ModuleTree, declared, is_kind, inputs_of, outputs_of, wires_of, all_among, port_of, module_of, port_names, is_identifier, is_declaration, is_instance, is_spelled, IsDeclared, nets_of, instance_names}
+use Rattle.lp_model.specs.Verilog.{Kind, InputPort, OutputPort, Wire, Declaration, declared, is_kind, inputs_of, outputs_of, wires_of, port_of, module_of, port_names, is_identifier, is_declaration, is_instance, is_spelled, IsDeclared, instance_names}
 use Rattle.lp_model.specs.WellFormed.{IsWellFormed}
 use Rattle.lp_vwrite.proofs.Names.{same_name, other_name, has_name-append, among_same, distinct_front, distinct_insert}
-use Rattle.lp_vwrite.proofs.Tree.{kind_of, port_declaration, wire_declaration, written, tree}
+use Rattle.lp_vwrite.proofs.Tree.{port_declaration, wire_declaration, written, tree}
 
 -- ---- what is declared of each kind
 

@@ -7,5 +7,4 @@ ghost use Rattle.lp_model.specs.WellFormed.{IsWellFormed};
 /// What is written of a well-formed netlist is read as that netlist.
 pub fn reads_back()
     ensures { (m : Module) → IsWellFormed m → Reads (layout m) m }
-{
-}
+{}

@@ -49,7 +49,8 @@ fn small(alloc: Global) -> Result<Module, NoMemory> {
 #[test]
 fn writes_one_item_a_line(rt: HostRuntime) -> Result<(), Fail> {
     let text = write_netlist(rt.alloc(), &small(rt.alloc())?)?;
-    let lines = b"module top (a, y);\n  input a;\n  output y;\n  wire n;\n  INV u (.A(a), .Y(n));\nendmodule\n";
+    let lines =
+        b"module top (a, y);\n  input a;\n  output y;\n  wire n;\n  INV u (.A(a), .Y(n));\nendmodule\n";
     assert_eq!(rt; text.as_slice(), lines.as_slice());
     Ok(())
 }

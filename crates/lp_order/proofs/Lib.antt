@@ -1,0 +1,3 @@
+pub mod OrderLaws
+mod RowsLemmas
+mod WalkLemmas

@@ -1,0 +1,8 @@
+use Rattle.std.proofs.Common.{◌∙◌, ap}
+use Rattle.lp_table.specs.Texts.{place_of}
+use Rattle.lp_table.proofs.TableLemmas.{position-map}
+use Rattle.lp_table.proofs.table.Table.find.Goals as goal
+
+pub returns : goal.returns
+returns c =
+    c.get_index_of.ensures.index ∙ position-map (λ key. key.items) c.args.text.now c.self.inside.texts.keys ∙ ap (place_of c.args.text.now) c.self.view_is
