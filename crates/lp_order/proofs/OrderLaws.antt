@@ -1,9 +1,10 @@
 -- An order and a loop exclude each other.
-use Rattle.std.proofs.Common.{◌≡◌, ◌<◌, ◌⊎◌, ℕ, zero, suc, List, [], ◌∷◌, length, inl, inr, refl, subst, sym, arith}
-use Rattle.std.specs.List.{Contains}
+use Rattle.std.proofs.Common.{◌≡◌, ◌<◌, ◌⊎◌, ℕ, zero, suc, List, [], ◌∷◌, ◌++◌, length, inl, inr, refl, subst, sym, arith}
+use Rattle.std.specs.List.{All, Contains}
 use Rattle.std.proofs.lemmas.Bool.{cases_lt}
 use Rattle.std.proofs.lemmas.List.{get_or_past}
-use Rattle.lp_order.specs.Order.{Reads, Reaches, one_read, more_reads, HasLoop, IsOrdered, IsOrder}
+use Rattle.std.proofs.lemmas.List.Elements.{All-nil, All-push}
+use Rattle.lp_order.specs.Order.{Reads, Reaches, one_read, more_reads, HasLoop, IsOrdered, IsOrder, ReadsBelow}
 
 pub Contains-cons_cases : (y : ℕ) (ys : List ℕ) (x : ℕ) → Contains (y ∷ ys) x → (y ≡ x) ⊎ Contains ys x
 Contains-cons_cases y ys x (zero, h, e) = inl e
@@ -14,6 +15,13 @@ Contains-first y ys x e = (0, omega arith, e)
 
 pub Contains-behind : (y : ℕ) (ys : List ℕ) (x : ℕ) → Contains ys x → Contains (y ∷ ys) x
 Contains-behind y ys x (k, h, e) = (suc k, omega arith, e)
+
+-- one more row, for a caller that builds a graph row by row with the number of its keys in hand
+pub ReadsBelow-nil : (n : ℕ) → ReadsBelow n []
+ReadsBelow-nil n = All-nil (λ row. All (λ b. b < n) row)
+
+pub ReadsBelow-push : (n : ℕ) (graph : List (List ℕ)) (row : List ℕ) → ReadsBelow n graph → All (λ b. b < n) row → ReadsBelow n (graph ++ row ∷ [])
+ReadsBelow-push n graph row below in_row = All-push (λ (r : List ℕ). All (λ b. b < n) r) graph row below in_row
 
 -- only a key of the graph reads
 pub Reads-within : (graph : List (List ℕ)) (a b : ℕ) → Reads graph a b → a < length graph

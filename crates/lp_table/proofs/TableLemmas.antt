@@ -1,5 +1,5 @@
 -- The set's words on the owned texts, as words on their bytes.
-use Rattle.std.proofs.Common.{◌≡◌, ℕ, ◌+◌, zero, Bool, true, false, not, ◌||◌, cond, List, [], ◌∷◌, length, Option, None, Some, refl, sym, ap, ◌∙◌, arith, position, subst, take, drop, get_or, ◌++◌, ◌<◌, suc, Result, Ok, Err, OnErr}
+use Rattle.std.proofs.Common.{◌≡◌, ℕ, ◌+◌, Bool, true, false, not, ◌||◌, cond, List, [], ◌∷◌, length, Option, None, Some, refl, sym, ap, ◌∙◌, arith, position, take, drop, get_or, ◌++◌, ◌<◌, suc, Result, Ok, Err, OnErr}
 use Rattle.std.specs.Prelude.{map}
 use Rattle.std.specs.List.{list_any, position_from}
 use Rattle.std.specs.Option.{option_map}

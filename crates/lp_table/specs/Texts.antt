@@ -1,5 +1,5 @@
 -- Texts as lists of bytes: whether one is among others, where, and whether all differ.
-use Rattle.std.specs.Prelude.{◌≡◌, ◌<◌, ◌+◌, ℕ, zero, suc, Bool, true, false, not, ◌&&◌, ◌||◌, List, [], ◌∷◌, ◌++◌, length, Option, None, Some, is_some, if◌then◌else◌, slice_index_or}
+use Rattle.std.specs.Prelude.{◌≡◌, ◌<◌, ℕ, zero, suc, Bool, true, false, not, ◌&&◌, ◌||◌, List, [], ◌∷◌, ◌++◌, length, Option, None, Some, is_some, if◌then◌else◌, slice_index_or}
 use Rattle.std.specs.List.{list_any}
 use Rattle.std.specs.Option.{option_map}
 use Rattle.std.specs.Str.{bytes_eq}
@@ -83,11 +83,11 @@ distinct-append_right (x ∷ xs) ys e = distinct-append_right xs ys (and_true (n
 pub distinct-repeated : (xs : List (List ℕ)) (text : List ℕ) (ys : List (List ℕ)) → has_text text xs ≡ true → distinct (xs ++ text ∷ ys) ≡ false
 distinct-repeated xs text ys e =
     elim (cases_Bool (distinct (xs ++ text ∷ ys))) [
-      inr apart_not ↦ apart_not
-    | inl apart ↦
-        let front = distinct-append_left (xs ++ text ∷ []) ys (ap distinct (append_assoc xs (text ∷ []) ys) ∙ apart) in
-        let absent = (and_true (not (has_text text xs)) (distinct xs) (sym (distinct-push xs text) ∙ front)).0 in
-        absurd (true≢false (sym absent ∙ ap not e))
+      | inr apart_not ↦ apart_not
+      | inl apart ↦
+          let front = distinct-append_left (xs ++ text ∷ []) ys (ap distinct (append_assoc xs (text ∷ []) ys) ∙ apart) in
+          let absent = (and_true (not (has_text text xs)) (distinct xs) (sym (distinct-push xs text) ∙ front)).0 in
+          absurd (true≢false (sym absent ∙ ap not e))
     ]
 
 -- a found text is at its place
@@ -156,8 +156,10 @@ place_of-distinct (t ∷ ts) (suc k) d h = by (same_text (slice_index_or ts k []
   where
     both : (not (has_text t ts) ≡ true) × (distinct ts ≡ true)
     both = and_true (not (has_text t ts)) (distinct ts) d
+
     within : k < length ts
     within = omega arith
+
     by : (b : Bool) → same_text (slice_index_or ts k []) t ≡ b → place_of (slice_index_or ts k []) ts ≡ Some k → place_of (slice_index_or ts k []) (t ∷ ts) ≡ Some (suc k)
     by true s behind =
         let twice : has_text t ts ≡ true = subst (λ x. has_text x ts ≡ true) (same_text-true (slice_index_or ts k []) t s) (has_text-at ts k within) in

@@ -1,4 +1,4 @@
-use Rattle.std.proofs.Common.{◌≡◌, [], get_or, take, not, true, false, sym, ap, ◌∙◌, arith}
+use Rattle.std.proofs.Common.{◌≡◌, [], get_or, true, sym, ◌∙◌, arith}
 use Rattle.std.proofs.lemmas.List.{get_or_read}
 use Rattle.lp_table.specs.Texts.{has_text}
 use Rattle.lp_table.proofs.TableLemmas.{distinct-take_repeated, true-from_not}
