@@ -1,5 +1,5 @@
 -- The two laws: what is read is an intent of the text, and an intent of a text is read.
-use Rattle.std.proofs.Common.{◌≡◌, ℕ, zero, suc, ◌-◌, ◌+◌, ◌≤◌, Bool, true, false, cond, not, nat_le, List, [], ◌∷◌, ◌++◌, length, take, drop, Option, Some, None, Result, Ok, Err, refl, sym, ap, subst, ◌∙◌, append_assoc, arith, length-append}
+use Rattle.std.proofs.Common.{◌≡◌, ℕ, ◌-◌, ◌≤◌, Bool, true, false, cond, not, nat_le, List, [], ◌∷◌, ◌++◌, length, take, drop, Option, Some, None, Result, Ok, Err, refl, sym, ap, subst, ◌∙◌, arith, length-append}
 use Rattle.std.specs.Prelude.{codes, bytes_eq, IsTrue, IfOk, IfSome}
 use Rattle.std.specs.List.{list_all, prefix_len}
 use Rattle.std.proofs.lemmas.Bool.{and_parts, leb-true, le-leb}
@@ -179,15 +179,34 @@ text_of_steps bytes power gnd set domain state volts p g s d t v voltage =
     ∙ ap (λ (x : List ℕ). followed (domain_pieces power.0 gnd.0) (domain.0 ++ x)) (t
     ∙ ap (λ (x : List ℕ). followed (state_pieces power.0 set.0) (state.0 ++ x)) v))))
 
+-- what the steps behind each name make
+abbrev with_voltage : Name → Name → Name → Name → Name → ℕ → Option Intent
+with_voltage power gnd set domain state voltage = cond (not (bytes_eq power gnd)) (Some (made power gnd set domain state voltage)) None
+
+abbrev with_state : Name → Name → Name → Name → Name × List ℕ → Option Intent
+with_state power gnd set domain state = voltage_at state.1 >>= with_voltage power gnd set domain state.0
+
+abbrev with_domain : Name → Name → Name → Name × List ℕ → Option Intent
+with_domain power gnd set domain = named_at (state_pieces power set) domain.1 >>= with_state power gnd set domain.0
+
+abbrev with_set : Name → Name → Name × List ℕ → Option Intent
+with_set power gnd set = named_at (domain_pieces power gnd) set.1 >>= with_domain power gnd set.0
+
+abbrev with_gnd : Name → Name × List ℕ → Option Intent
+with_gnd power gnd = named_at (set_pieces power gnd.0) gnd.1 >>= with_set power gnd.0
+
+abbrev with_power : Name × List ℕ → Option Intent
+with_power power = named_at gnd_pieces power.1 >>= with_gnd power.0
+
 spelled_found : (bytes : List ℕ) (i : Intent) → length bytes ≤ LIMIT → spelled_at bytes ≡ Some i → IsIntent bytes i
 unfolding spelled_at
 spelled_found bytes i within e =
-    let power = bind_some (named_at power_pieces bytes) _ i e in
-    let gnd = bind_some (named_at gnd_pieces power.0.1) _ i power.2 in
-    let set = bind_some (named_at (set_pieces power.0.0 gnd.0.0) gnd.0.1) _ i gnd.2 in
-    let domain = bind_some (named_at (domain_pieces power.0.0 gnd.0.0) set.0.1) _ i set.2 in
-    let state = bind_some (named_at (state_pieces power.0.0 set.0.0) domain.0.1) _ i domain.2 in
-    let voltage = bind_some (voltage_at state.0.1) _ i state.2 in
+    let power = bind_some (named_at power_pieces bytes) with_power i e in
+    let gnd = bind_some (named_at gnd_pieces power.0.1) (with_gnd power.0.0) i power.2 in
+    let set = bind_some (named_at (set_pieces power.0.0 gnd.0.0) gnd.0.1) (with_set power.0.0 gnd.0.0) i gnd.2 in
+    let domain = bind_some (named_at (domain_pieces power.0.0 gnd.0.0) set.0.1) (with_domain power.0.0 gnd.0.0 set.0.0) i set.2 in
+    let state = bind_some (named_at (state_pieces power.0.0 set.0.0) domain.0.1) (with_state power.0.0 gnd.0.0 set.0.0 domain.0.0) i domain.2 in
+    let voltage = bind_some (voltage_at state.0.1) (with_voltage power.0.0 gnd.0.0 set.0.0 domain.0.0 state.0.0) i state.2 in
     let parts = cond_some (not (bytes_eq power.0.0 gnd.0.0)) (made power.0.0 gnd.0.0 set.0.0 domain.0.0 state.0.0 voltage.0) i voltage.2 in
     let p = named_found power_pieces bytes power.0 power.1 in
     let g = named_found gnd_pieces power.0.1 gnd.0 gnd.1 in
@@ -207,7 +226,7 @@ spelled_found bytes i within e =
       apart = parts.0;
       voltage = v.2;
     } in
-    subst (λ (j : Intent). IsIntent bytes j) parts.1 found
+    subst (λ (j : Intent). IsIntent bytes j) {x = made power.0.0 gnd.0.0 set.0.0 domain.0.0 state.0.0 voltage.0} parts.1 found
 
 -- what is read is an intent of the text
 pub intent_found : (text : List ℕ) (i : Intent) → intent_at text ≡ Some i → IsIntent text i

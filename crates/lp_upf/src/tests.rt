@@ -38,55 +38,44 @@ fn the_form_is_read(rt: HostRuntime) -> Result<(), Fail> {
 }
 
 #[test]
-fn other_names_and_voltages_are_read(rt: HostRuntime) -> Result<(), Fail> {
+fn names_may_have_digits(rt: HostRuntime) -> Result<(), Fail> {
     let intent = changed(rt.alloc(), "VDD", "p_1")?.ok_or("an intent")?;
     assert_eq!(rt; intent.power.all(), b"p_1".as_slice());
-    let intent = changed(rt.alloc(), "{ON 1.0}", "{Slow 0.81}")?.ok_or("an intent")?;
-    assert_eq!(rt; intent.state.all(), b"Slow".as_slice());
-    assert_eq!(rt; intent.voltage, 810_000);
     Ok(())
 }
 
 #[test]
+fn voltages_have_microvolts(rt: HostRuntime) -> Result<(), Fail> {
+    let intent = changed(rt.alloc(), "1.0", "0.81")?.ok_or("an intent")?;
+    assert_eq!(rt; intent.voltage, 810_000);
+    Ok(())
+}
+
+// Each change of the form by which a text denotes nothing.
+const FAULTS: [(&str, &str); 10] = [
+    ("VSS", "VDD"),
+    ("VSS", "lp_x"),
+    ("VSS", "0V"),
+    ("port VSS\n", "port VSS\n# a comment\n"),
+    ("port VSS", "port  VSS"),
+    ("port VSS\n", "port VSS \n"),
+    ("{VDD}", "{VDE}"),
+    ("1.0", "x"),
+    ("1.0}\n", "1.0}"),
+    ("1.0}\n", "1.0}\n\n"),
+];
+
+#[test]
 fn other_texts_denote_nothing(rt: HostRuntime) -> Result<(), Fail> {
-    let alloc = rt.alloc();
-    assert!(rt;
-        changed(alloc, "VSS", "VDD")?.is_none(),
-        "power and ground differ"
-    );
-    assert!(rt;
-        changed(alloc, "VSS", "lp_x")?.is_none(),
-        "the name is the tool's own"
-    );
-    assert!(rt;
-        changed(alloc, "VSS", "0V")?.is_none(),
-        "a name begins with a letter"
-    );
-    assert!(rt;
-        changed(
-            alloc,
-            "VDD\ncreate_supply_net",
-            "VDD\n# comment\ncreate_supply_net"
-        )?
-        .is_none()
-    );
-    assert!(rt;
-        changed(alloc, "port VSS", "port  VSS")?.is_none(),
-        "two blanks"
-    );
-    assert!(rt; changed(alloc, "1.0", "x")?.is_none(), "no voltage");
-    assert!(rt;
-        changed(alloc, "{VDD}", "{VDE}")?.is_none(),
-        "a port of another name"
-    );
-    assert!(rt;
-        changed(alloc, "1.0}\n", "1.0}")?.is_none(),
-        "no line feed at the end"
-    );
-    assert!(rt;
-        changed(alloc, "1.0}\n", "1.0}\n\n")?.is_none(),
-        "one more line"
-    );
-    assert!(rt; read(alloc, b"")?.is_none());
+    for (old, new) in FAULTS {
+        let intent = changed(rt.alloc(), old, new)?;
+        assert!(rt; intent.is_none(), "{old} as {new}");
+    }
+    Ok(())
+}
+
+#[test]
+fn nothing_is_no_intent(rt: HostRuntime) -> Result<(), Fail> {
+    assert!(rt; read(rt.alloc(), b"")?.is_none());
     Ok(())
 }
