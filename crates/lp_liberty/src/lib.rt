@@ -9,3 +9,6 @@ mod name;
 mod production;
 
 pub use library::{one_library, read_library};
+
+#[cfg(test)]
+mod tests;
