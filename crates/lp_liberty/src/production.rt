@@ -1,7 +1,6 @@
-ghost use Rattle.std.specs.Prelude.{◌≡◌, Option, Some, ◌==◌};
+ghost use Rattle.std.specs.Prelude.{◌≡◌, take_while};
 ghost use Rattle.lp_token.specs.declared.token.Language.TheVariants.{Liberty};
 ghost use Rattle.lp_token.specs.Reading.{drop_while, word_is, mark_is, word_at, quoted_at};
-ghost use Rattle.std.specs.Prelude.{take_while};
 ghost use Rattle.lp_liberty.specs.View.{Gives};
 ghost use Rattle.lp_liberty.specs.Productions.{group_at, value_at, string_value_at, pg_pin_at, is_operand_byte, joined_at, function_at};
 

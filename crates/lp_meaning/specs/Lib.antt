@@ -1,0 +1,11 @@
+pub mod Events
+pub mod Faults
+pub mod Graph
+pub mod Intent
+pub mod Keys
+pub mod Pins
+pub mod Promise
+pub mod Settling
+pub mod Sound
+pub mod Supply
+pub mod Written

@@ -1,0 +1,5 @@
+pub mod Declared
+pub mod Listed
+pub mod Names
+pub mod Spelled
+pub mod Tree
