@@ -1,0 +1,3 @@
+pub mod Loop
+pub mod Words
+pub mod Pieces
