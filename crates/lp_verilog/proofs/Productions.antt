@@ -64,7 +64,8 @@ listed_found {A} item next tokens good i r text y e =
     let row = many_found next (λ x. Mark 44 ∷ tokens x) good r (suc (length b.0.1)) b.0.1 c.0 c.1 in
     let all : SpellsTo Verilog (separated 44 tokens (b.0.0 ∷ c.0.0)) text c.0.1 = rw (separated-cons tokens b.0.0 c.0.0) (spells-append Verilog (tokens b.0.0) (flat_map (λ x. Mark 44 ∷ tokens x) c.0.0) text b.0.1 c.0.1 first.0 row.spelled) in
     let here : Listed tokens good (b.0.0 ∷ c.0.0) text c.0.1 = record { spelled = all; filled = refl; all_good = and_from (good b.0.0) (list_all good c.0.0) first.1 row.all_good } in
-    let same : (b.0.0 ∷ c.0.0, c.0.1) ≡ y = ap (λ (t : List A). (t, c.0.1)) (sym (fold-push (b.0.0 ∷ []) c.0.0)) ∙ some_same c.2 in
+    let gathered_list : (b.0.0 ∷ c.0.0, c.0.1) ≡ (fold push (b.0.0 ∷ []) c.0.0, c.0.1) = ap (λ (t : List A). (t, c.0.1)) (sym (fold-push (b.0.0 ∷ []) c.0.0)) in
+    let same : (b.0.0 ∷ c.0.0, c.0.1) ≡ y = gathered_list ∙ some_same c.2 in
     subst (λ (z : List A × List ℕ). Listed tokens good z.0 text z.1) same here
 
 listed_again : {A : Type 0} (item : List ℕ → Option (A × List ℕ)) (next : List ℕ → Option (Option (A × List ℕ))) (tokens : A → List Token) (good : A → Bool) → Items item tokens good → Reads next (λ x. Mark 44 ∷ tokens x) good
