@@ -15,3 +15,6 @@ mod tree;
 
 pub use laws::one_netlist;
 pub use netlist::read_netlist;
+
+#[cfg(test)]
+mod tests;
