@@ -1,0 +1,6 @@
+//! The cells of a library, found by their names.
+#![tactic(auto)]
+
+mod index;
+
+pub use index::CellIndex;
