@@ -12,7 +12,8 @@ abbrev pub gate : ℕ → ℕ → ℕ → Instance
 gate a b y = record {
   name = codes "g" ++ y ∷ [];
   target = codes "AND2";
-  connections = record { pin = codes "A"; net = a ∷ [] } ∷ record { pin = codes "B"; net = b ∷ [] } ∷ record { pin = codes "Y"; net = y ∷ [] } ∷ [] }
+  connections = record { pin = codes "A"; net = a ∷ [] } ∷ record { pin = codes "B"; net = b ∷ [] } ∷ record { pin = codes "Y"; net = y ∷ [] } ∷ [];
+}
 
 abbrev pub gates : List ℕ → List Instance
 gates (a ∷ b ∷ y ∷ more) = gate a b y ∷ gates more
@@ -24,7 +25,8 @@ sample letters = record {
   name = codes "top";
   ports = record { name = codes "i"; direction = Input } ∷ record { name = codes "o"; direction = Output } ∷ [];
   wires = codes "m" ∷ codes "n" ∷ codes "p" ∷ [];
-  instances = gates letters }
+  instances = gates letters;
+}
 
 abbrev pub is_well_formed : Module → Bool
 is_well_formed m =
