@@ -4,3 +4,6 @@
 mod index;
 
 pub use index::CellIndex;
+
+#[cfg(test)]
+mod tests;

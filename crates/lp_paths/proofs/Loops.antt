@@ -1,39 +1,37 @@
 -- An order of the numbers is one of the keys, and a loop of the numbers is one of the keys.
-use Rattle.std.proofs.Common.{◌≡◌, ℕ, ◌<◌, ◌+◌, zero, suc, Bool, true, false, not, ◌||◌, ◌&&◌, cond, List, [], ◌∷◌, ◌++◌, length, Option, None, Some, refl, sym, ap, ◌∙◌, subst, arith, get_or, inl, inr, append_assoc}
-use Rattle.std.specs.Prelude.{map, flat_map, filter, bytes_eq, slice_get, slice_index_or, option_to_list, Contains, All, is_some}
+use Rattle.std.proofs.Common.{◌≡◌, ℕ, ◌<◌, Bool, true, false, ◌||◌, ◌&&◌, cond, List, [], ◌∷◌, ◌++◌, length, Option, None, Some, refl, sym, ap, ◌∙◌, subst, arith, get_or, inl, inr, append_assoc}
+use Rattle.std.specs.Prelude.{map, flat_map, filter, bytes_eq, slice_get, option_to_list, Contains, All, is_some}
 use Rattle.std.specs.List.{list_all, list_any}
-use Rattle.std.proofs.lemmas.Bool.{cases_Bool, true≢false, false≢true, and_parts, and_from, or_cases, both_ways}
+use Rattle.std.proofs.lemmas.Bool.{cases_Bool, false≢true, and_parts, and_from, or_cases, both_ways}
 use Rattle.std.proofs.lemmas.List.{get_or-map, length-map, get_or_default}
 use Rattle.std.proofs.lemmas.List.Elements.{All-map, Contains-append_left, Contains-append_right, Contains-append_cases}
 use Rattle.std.proofs.lemmas.List.Folds.{list_all-append, list_any-append}
 use Rattle.std.proofs.lemmas.Option.{slice_get-get_or, slice_get_within, get_or_from_slice_get}
 use Rattle.std.proofs.lemmas.Slice.Eq.{bytes_eq-Decides}
-use Rattle.lp_table.specs.Texts.{has_text, place_of, distinct, place_of-Some, place_of-distinct, is_some-place_of, distinct-append_left}
+use Rattle.lp_table.specs.Texts.{place_of, distinct, place_of-Some, is_some-place_of, distinct-append_left}
 use Rattle.lp_order.specs.Order as order
 use Rattle.lp_order.specs.Order.{one_read, more_reads}
-use Rattle.lp_order.proofs.OrderLaws.{Contains-cons_cases, Contains-first, Contains-behind, Reads-within, Reaches-within}
+use Rattle.lp_order.proofs.OrderLaws.{Contains-cons_cases, Contains-first, Reaches-within}
 use Rattle.lp_model.specs.declared.netlist.Connection.{Connection}
 use Rattle.lp_model.specs.declared.netlist.Instance.{Instance}
 use Rattle.lp_model.specs.declared.netlist.Module.{Module}
 use Rattle.lp_model.specs.declared.netlist.Port.{Port}
 use Rattle.lp_model.specs.declared.cell.Function.{Function}
 use Rattle.lp_model.specs.declared.cell.Function.TheVariants.{Same, Not, And, Or}
-use Rattle.lp_model.specs.declared.cell.Pin.{Pin}
 use Rattle.lp_model.specs.declared.cell.Cell.{Cell}
-use Rattle.lp_model.specs.Names.{Name, has_name, is_distinct}
+use Rattle.lp_model.specs.Names.{Name, has_name}
 use Rattle.lp_model.specs.Liberty.{operands}
 use Rattle.lp_model.specs.Verilog.{port_names, nets_of, all_among, instance_names}
 use Rattle.lp_model.specs.WellFormed.{IsWellFormed}
 use Rattle.lp_meaning.specs.Keys.{Key, Node, Origin, has_key}
-use Rattle.lp_meaning.specs.Settling.{AllIn, IsOrder, Covers, IsWay, Reaches}
+use Rattle.lp_meaning.specs.Settling.{AllIn, IsOrder, Covers, Reaches}
 use Rattle.lp_meaning.specs.Graph.{Driver, Source, Outside, Driven, cell_named, net_among, net_at, connects, driver_with, driver_at, drivers_of, drivers, is_input_port, input_ports, first_source, source_of}
-use Rattle.lp_meaning.specs.Intent.{Design, origins, net_keys, source_reads, intent_reads}
+use Rattle.lp_meaning.specs.Intent.{Design, net_keys, source_reads, intent_reads}
 use Rattle.lp_meaning.specs.Faults.{HasLoop}
 use Rattle.lp_meaning.specs.Sound.{IsOrdered}
 use Rattle.lp_meaning.proofs.Settling.{has_key-tail, has_key-head, order-no_loop}
 use Rattle.lp_cells.specs.NameLaws.{has_name-text, is_distinct-text}
-use Rattle.lp_paths.specs.declared.operands.Operands.{Operands}
-use Rattle.lp_paths.specs.Sources.{net_names, number_of, number_at, operands_of, no_operands, row_of}
+use Rattle.lp_paths.specs.Sources.{net_names, number_of, number_at, operands_of, row_of}
 use Rattle.lp_paths.proofs.Rows.{source_operands, net_row}
 
 -- a design whose keys have an order has no loop

@@ -1,11 +1,10 @@
 -- The sources of nets as they are noted one after another: each net has its first.
-use Rattle.std.proofs.Common.{◌≡◌, ℕ, ◌+◌, ◌<◌, zero, suc, Bool, true, false, not, ◌||◌, ◌&&◌, cond, List, [], ◌∷◌, ◌++◌, length, Option, None, Some, refl, sym, ap, ◌∙◌, subst, arith, take, drop, get_or, inl, inr, append_assoc, append-nil}
+use Rattle.std.proofs.Common.{◌≡◌, ℕ, ◌+◌, ◌<◌, suc, true, false, not, ◌||◌, cond, List, [], ◌∷◌, ◌++◌, length, Option, None, Some, refl, sym, ap, ◌∙◌, drop, get_or, inl, inr, append_assoc, append-nil}
 use Rattle.std.specs.Prelude.{map, flat_map, replicate, is_some, bytes_eq, slice_set, slice_index_or}
 use Rattle.std.specs.Option.{option_map}
 use Rattle.std.proofs.lemmas.Bool.{cases_Bool, true≢false, and_parts, not-true}
 use Rattle.std.proofs.lemmas.List.{drop_more}
-use Rattle.std.proofs.lemmas.Grind.{flat_map-append}
-use Rattle.lp_table.specs.Texts.{same_text, has_text, place_of, distinct, distinct-repeated, distinct-append_left, same_text-true, same_text_comm, true-same_text, None-place_of, place_of-Some}
+use Rattle.lp_table.specs.Texts.{same_text, has_text, place_of, distinct, distinct-repeated, same_text-true}
 use Rattle.lp_model.specs.Names.{Name}
 use Rattle.lp_paths.specs.declared.operands.Operands.{Operands}
 use Rattle.lp_paths.specs.Sources.{Entry, note_at, note, note_all, add_text, add_texts}

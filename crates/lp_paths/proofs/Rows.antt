@@ -13,8 +13,8 @@ use Rattle.lp_model.specs.declared.cell.Cell.{Cell}
 use Rattle.lp_model.specs.Names.{Name, has_name}
 use Rattle.lp_meaning.specs.Graph.{Driver, Source, Outside, Driven, cell_named, connects, driver_with, driver_at, drivers_of, drivers, is_input_port, input_ports, first_source, source_of}
 use Rattle.lp_paths.specs.declared.operands.Operands.{Operands}
-use Rattle.lp_paths.specs.Sources.{operands_of, no_operands, Entry, connection_entries, function_entries, pin_entries, cell_entries, instance_entries, port_entries, noted, row_of}
-use Rattle.lp_paths.proofs.Noting.{or_else, or_else-assoc, entry_for, first_for, first_for-append, noted-first}
+use Rattle.lp_paths.specs.Sources.{operands_of, no_operands, connection_entries, function_entries, pin_entries, cell_entries, instance_entries, port_entries, noted, row_of}
+use Rattle.lp_paths.proofs.Noting.{or_else, first_for, first_for-append, noted-first}
 
 -- what a source looks at
 abbrev pub source_operands : List Name → Option Source → Option Operands

@@ -1,5 +1,5 @@
 -- The nets of a module by their numbers, and the source of each as it is noted.
-use Rattle.std.specs.Prelude.{ℕ, Bool, true, false, List, [], ◌∷◌, ◌++◌, map, flat_map, bytes_eq, Option, Some, None, is_some, if◌then◌else◌, slice_index_or, slice_set, replicate, length, option_to_list}
+use Rattle.std.specs.Prelude.{ℕ, List, [], ◌∷◌, ◌++◌, flat_map, bytes_eq, Option, Some, None, is_some, if◌then◌else◌, slice_index_or, slice_set, replicate, length, option_to_list}
 use Rattle.lp_table.specs.Texts.{has_text, place_of}
 use Rattle.lp_model.specs.declared.netlist.Port.{Port}
 use Rattle.lp_model.specs.declared.netlist.Connection.{Connection}

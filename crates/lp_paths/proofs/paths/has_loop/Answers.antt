@@ -1,4 +1,4 @@
-use Rattle.std.proofs.Common.{◌≡◌, ◌∙◌, Bool, true, false, not, sym, ap, List, ℕ}
+use Rattle.std.proofs.Common.{◌≡◌, ◌∙◌, Bool, true, false, not, ap}
 use Rattle.std.specs.Prelude.{map}
 use Rattle.std.specs.Bool.{OnTrue, OnFalse}
 use Rattle.lp_cells.specs.NameLaws.{is_distinct-text}

@@ -1,4 +1,4 @@
-use Rattle.std.proofs.Common.{◌<◌, ◌∙◌, length, arith, sym, subst}
+use Rattle.std.proofs.Common.{arith, sym}
 use Rattle.lp_table.specs.Texts.{place_of-Some}
 use Rattle.lp_paths.proofs.sources.note.Goals as goal
 

@@ -1,6 +1,5 @@
-use Rattle.std.proofs.Common.{◌≡◌, ◌∙◌, List, Option, sym, ap, arith, get_or}
-use Rattle.lp_paths.specs.declared.operands.Operands.{Operands}
-use Rattle.lp_paths.specs.Sources.{pin_entries, function_entries, connection_entries, note_all, operands_of}
+use Rattle.std.proofs.Common.{◌≡◌, ◌∙◌, sym, ap, arith}
+use Rattle.lp_paths.specs.Sources.{pin_entries, function_entries, connection_entries, note_all}
 use Rattle.std.specs.Prelude.{flat_map}
 use Rattle.lp_paths.proofs.Noting.{noting-next}
 use Rattle.lp_paths.proofs.sources.note_pins.Goals as goal
