@@ -1,14 +1,13 @@
 -- The looking up of names tells whether they are declared as they have to be.
-use Rattle.std.proofs.Common.{◌≡◌, ℕ, Bool, true, false, cond, List, [], ◌∷◌, ◌++◌, map, Option, Some, None, refl, sym, ap, ◌∙◌, append_assoc, inl, inr}
-use Rattle.std.specs.Prelude.{IsTrue, flat_map, not, ◌&&◌, ◌||◌, bytes_eq, is_some}
-use Rattle.std.specs.List.{list_all, list_any}
-use Rattle.std.proofs.lemmas.Bool.{and_parts, and_from, cases_Bool, cond-true, cond-false, not-true, true≢false, both_ways}
+use Rattle.std.proofs.Common.{◌≡◌, Bool, true, false, cond, List, [], ◌∷◌, ◌++◌, map, Option, Some, None, refl, sym, ap, ◌∙◌, append_assoc, inl, inr}
+use Rattle.std.specs.Prelude.{flat_map, ◌&&◌, ◌||◌}
+use Rattle.std.specs.List.{list_all}
+use Rattle.std.proofs.lemmas.Bool.{and_parts, and_from, cases_Bool, cond-false, true≢false}
 use Rattle.std.proofs.lemmas.List.{append-nil}
 use Rattle.std.proofs.lemmas.List.Folds.{list_all-append, list_all-map}
-use Rattle.lp_table.specs.Texts.{same_text, has_text, place_of, distinct, same_text_comm, is_some-place_of, distinct-push, distinct-repeated, distinct-append_left}
+use Rattle.lp_table.specs.Texts.{same_text, has_text, distinct, same_text_comm, is_some-place_of, distinct-push, distinct-repeated, distinct-append_left}
 use Rattle.lp_token.specs.Reading.{◌>>=◌}
 use Rattle.lp_token.specs.Steps.{bind_some, test_some, some_same}
-use Rattle.lp_model.specs.declared.netlist.Direction.TheVariants.{Input, Output}
 use Rattle.lp_model.specs.declared.netlist.Port.{Port}
 use Rattle.lp_model.specs.declared.netlist.Instance.{Instance}
 use Rattle.lp_model.specs.declared.netlist.Module.{Module}

@@ -4,7 +4,7 @@ use Rattle.lp_token.specs.Reading.{◌>>=◌}
 use Rattle.lp_verilog.specs.declared.fault.ReadError.{ReadError}
 use Rattle.lp_verilog.specs.declared.fault.ReadError.TheVariants as errors
 use Rattle.lp_verilog.specs.Gives.{Fails}
-use Rattle.lp_verilog.specs.Reading.{many, follow, gathered}
+use Rattle.lp_verilog.specs.Reading.{many, gathered}
 
 regroup : {A B : Type 0} (take_up : B → A → B) (state : B) (item : A) (read : Option (List A × List ℕ)) → gathered take_up state (read >>= λ others. Some (item ∷ others.0, others.1)) ≡ gathered take_up (take_up state item) read
 regroup take_up state item None = refl

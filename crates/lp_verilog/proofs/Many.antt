@@ -1,15 +1,14 @@
 -- Items one after another: what is read is spelled so, and what is spelled so is read.
-use Rattle.std.proofs.Common.{◌≡◌, ℕ, zero, suc, ◌+◌, ◌<◌, ◌≤◌, Bool, true, false, List, [], ◌∷◌, ◌++◌, length, Option, Some, None, refl, sym, ap, ◌∙◌, subst, append_assoc, arith}
-use Rattle.std.specs.Prelude.{IsTrue, flat_map}
+use Rattle.std.proofs.Common.{◌≡◌, ℕ, zero, suc, ◌<◌, Bool, true, List, [], ◌∷◌, ◌++◌, length, Option, Some, None, refl, sym, ap, ◌∙◌, subst, append_assoc, arith}
+use Rattle.std.specs.Prelude.{flat_map}
 use Rattle.std.specs.List.{list_all, fold}
 use Rattle.std.proofs.lemmas.Bool.{and_parts, and_from}
 use Rattle.std.proofs.lemmas.List.{append-nil}
 use Rattle.lp_token.specs.declared.token.Language.TheVariants.{Verilog}
-use Rattle.lp_token.specs.Tokens.{Token, Word, Mark, SpellsTo, separated}
-use Rattle.lp_token.specs.Laws.{spells-append, spells-split, spells_le}
-use Rattle.lp_token.specs.Reading.{◌>>=◌}
+use Rattle.lp_token.specs.Tokens.{Token, Mark, SpellsTo, separated}
+use Rattle.lp_token.specs.Laws.{spells-append, spells-split}
 use Rattle.lp_token.specs.Steps.{bind_some, some_same}
-use Rattle.lp_verilog.specs.Reading.{many, follow, gathered, push}
+use Rattle.lp_verilog.specs.Reading.{many, follow, push}
 
 -- a step reads items of these tokens, and each takes a byte
 pub record Reads {A : Type 0} (next : List ℕ → Option (Option (A × List ℕ))) (tokens : A → List Token) (good : A → Bool) : Type 0 where

@@ -1,15 +1,13 @@
 -- What one token tells of the readers, in both directions.
-use Rattle.std.proofs.Common.{◌≡◌, ℕ, Bool, true, false, cond, List, [], ◌∷◌, ◌++◌, Option, Some, None, refl, sym, ap, ◌∙◌, subst}
-use Rattle.std.specs.Prelude.{IsTrue, bytes_eq, codes, ◌==◌, ◌&&◌, ◌||◌, not}
-use Rattle.std.specs.List.{list_all, list_any}
-use Rattle.std.proofs.lemmas.Bool.{and_parts, and_from, not-true, false_from_ne_true, both_ways, cond-true, cond-false}
+use Rattle.std.proofs.Common.{◌≡◌, ℕ, Bool, true, false, cond, List, Option, Some, None, refl, sym, ap, ◌∙◌, subst}
+use Rattle.std.specs.Prelude.{bytes_eq, codes, ◌==◌, not}
+use Rattle.std.proofs.lemmas.Bool.{and_parts, not-true, false_from_ne_true, both_ways, cond-true, cond-false}
 use Rattle.std.proofs.lemmas.Slice.Eq.{bytes_eq-Decides}
-use Rattle.lp_token.specs.declared.token.Language.{Language}
 use Rattle.lp_token.specs.declared.token.Language.TheVariants.{Verilog}
-use Rattle.lp_token.specs.Tokens.{Token, Word, Mark, BeginsWith, SpellsTo, Spells}
+use Rattle.lp_token.specs.Tokens.{Token, Word, Mark, BeginsWith}
 use Rattle.lp_token.specs.Laws.{token_again}
-use Rattle.lp_token.specs.Reading.{◌>>=◌, token_at, behind_word, behind_mark, word_of, word_is, mark_is, word_at}
-use Rattle.lp_token.specs.Steps.{bind_some, test_some, some_same, word_is_found, word_is_again, mark_is_found, mark_is_again, word_at_found, word_at_again}
+use Rattle.lp_token.specs.Reading.{◌>>=◌, behind_word, behind_mark, word_is, mark_is, word_at}
+use Rattle.lp_token.specs.Steps.{bind_some, test_some, some_same, word_at_found, word_at_again}
 use Rattle.lp_model.specs.Names.{Name, has_name, is_simple_name}
 use Rattle.lp_model.specs.Verilog.{reserved_words, is_identifier, keyword}
 use Rattle.lp_model.specs.Verilog as model

@@ -1,23 +1,22 @@
 -- The productions of the grammar: what each reader reads is spelled so, and what is spelled so it reads.
-use Rattle.std.proofs.Common.{◌≡◌, ℕ, suc, ◌+◌, ◌<◌, ◌≤◌, Bool, true, false, List, [], ◌∷◌, ◌++◌, length, Option, Some, None, refl, sym, ap, ◌∙◌, subst, append_assoc, arith}
-use Rattle.std.specs.Prelude.{IsTrue, flat_map, codes, ◌&&◌, ◌==◌}
+use Rattle.std.proofs.Common.{◌≡◌, ℕ, suc, Bool, true, false, List, [], ◌∷◌, ◌++◌, length, Option, Some, None, refl, sym, ap, ◌∙◌, subst, arith}
+use Rattle.std.specs.Prelude.{flat_map, codes, ◌&&◌, ◌==◌}
 use Rattle.std.specs.List.{list_all, fold}
 use Rattle.std.proofs.lemmas.Bool.{and_parts, and_from}
 use Rattle.lp_token.specs.declared.token.Language.TheVariants.{Verilog}
 use Rattle.lp_token.specs.Tokens.{Token, Word, Mark, BeginsWith, SpellsTo, separated, is_filled}
-use Rattle.lp_token.specs.Laws.{spells-append, spells-split, spells_le, spells_fewer, begins_fewer}
+use Rattle.lp_token.specs.Laws.{spells-append, spells-split, spells_fewer}
 use Rattle.lp_token.specs.Reading.{◌>>=◌, word_is, mark_is}
-use Rattle.lp_token.specs.Steps.{bind_some, test_some, some_same, word_is_found, word_is_again, mark_is_found, mark_is_again}
+use Rattle.lp_token.specs.Steps.{bind_some, some_same, mark_is_found, mark_is_again}
 use Rattle.lp_model.specs.declared.netlist.Connection.{Connection}
 use Rattle.lp_model.specs.declared.netlist.Instance.{Instance}
 use Rattle.lp_model.specs.Names.{Name}
 use Rattle.lp_model.specs.Verilog.{is_identifier, is_connection, is_instance, is_declaration, keyword, name_list, declaration_tokens, connection_tokens, instance_tokens}
 use Rattle.lp_model.specs.Verilog as model
-use Rattle.lp_verilog.specs.declared.tree.Kind.{Kind}
 use Rattle.lp_verilog.specs.declared.tree.Declaration.{Declaration}
-use Rattle.lp_verilog.specs.Reading.{many, gathered, push, where_some, where_none, identifier_at, next_name, names_at, kind_at, declared_names_at, next_declaration, connection_at, next_connection, connections_at, instance_at, next_instance}
+use Rattle.lp_verilog.specs.Reading.{many, gathered, push, where_some, identifier_at, next_name, names_at, kind_at, declared_names_at, next_declaration, connection_at, next_connection, connections_at, instance_at, next_instance}
 use Rattle.lp_verilog.proofs.Pieces.{other_mark, other_word, reserved_apart, identifier_found, identifier_again, shown_kind, kind_found, kind_again, where_some_found, where_none_found}
-use Rattle.lp_verilog.proofs.Many.{Reads, Row, many_found, many_again, fold-push, separated-cons}
+use Rattle.lp_verilog.proofs.Many.{Reads, many_found, many_again, fold-push, separated-cons}
 
 -- ---- lists with commas
 

@@ -1,21 +1,20 @@
 -- A source is read from the texts that denote it, and from no others.
-use Rattle.std.proofs.Common.{◌≡◌, ℕ, ◌≤◌, Bool, true, false, cond, List, [], ◌∷◌, ◌++◌, map, length, Option, Some, None, refl, sym, ap, ◌∙◌, subst}
-use Rattle.std.specs.Prelude.{IsTrue, flat_map, not, ◌&&◌, ◌||◌}
+use Rattle.std.proofs.Common.{◌≡◌, ℕ, ◌≤◌, Bool, true, false, cond, List, [], ◌∷◌, ◌++◌, length, Some, None, refl, sym, ap, ◌∙◌}
+use Rattle.std.specs.Prelude.{flat_map, not, ◌&&◌}
 use Rattle.std.specs.List.{list_all}
 use Rattle.std.proofs.lemmas.List.Folds.{list_all-append, list_all-map}
 use Rattle.lp_token.specs.Reading.{◌>>=◌}
-use Rattle.lp_token.specs.Steps.{bind_some, test_some, some_same}
+use Rattle.lp_token.specs.Steps.{bind_some, test_some}
 use Rattle.lp_model.specs.declared.netlist.Port.{Port}
 use Rattle.lp_model.specs.declared.netlist.Connection.{Connection}
 use Rattle.lp_model.specs.declared.netlist.Instance.{Instance}
 use Rattle.lp_model.specs.declared.netlist.Module.{Module}
-use Rattle.lp_model.specs.Names.{Name, is_reserved}
-use Rattle.lp_model.specs.Verilog.{ModuleTree, Reads, IsSource, is_free, names_in, names_in_instance, port_names, module_of}
-use Rattle.lp_verilog.specs.declared.tree.Tree.{Tree}
+use Rattle.lp_model.specs.Names.{is_reserved}
+use Rattle.lp_model.specs.Verilog.{Reads, IsSource, is_free, names_in_instance, port_names}
 use Rattle.lp_verilog.specs.Reading.{module_at}
 use Rattle.lp_verilog.specs.Checks.{netlist_of, is_free_name, is_free_connection, is_free_instance, is_free_module, source_at}
 use Rattle.lp_verilog.proofs.Whole.{tree_of, IsModule, module_found, module_again}
-use Rattle.lp_verilog.proofs.Checked.{Stands, netlist_found, netlist_again, same_all, all_flat}
+use Rattle.lp_verilog.proofs.Checked.{netlist_found, netlist_again, same_all, all_flat}
 
 -- ---- names that are not the tool's own
 

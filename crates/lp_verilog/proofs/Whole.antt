@@ -1,14 +1,14 @@
 -- The whole module: what is read is spelled so, and what is spelled so is read.
-use Rattle.std.proofs.Common.{◌≡◌, ℕ, suc, ◌+◌, ◌<◌, ◌≤◌, Bool, true, false, cond, List, [], ◌∷◌, ◌++◌, map, length, Option, Some, None, refl, sym, ap, ◌∙◌, subst, append_assoc, arith, inl, inr}
-use Rattle.std.specs.Prelude.{IsTrue, flat_map, codes, ◌&&◌, ◌⊎◌}
+use Rattle.std.proofs.Common.{◌≡◌, ℕ, suc, true, List, [], ◌∷◌, ◌++◌, map, length, Option, Some, None, refl, sym, ap, ◌∙◌, subst, append_assoc, arith, inl, inr}
+use Rattle.std.specs.Prelude.{flat_map, codes, ◌&&◌, ◌⊎◌}
 use Rattle.std.specs.List.{list_all, fold}
-use Rattle.std.proofs.lemmas.Bool.{and_parts, and_from, cond-true}
+use Rattle.std.proofs.lemmas.Bool.{and_parts, and_from}
 use Rattle.std.proofs.lemmas.List.{append-nil}
 use Rattle.std.proofs.lemmas.List.Folds.{list_all-map}
 use Rattle.lp_token.specs.declared.token.Language.TheVariants.{Verilog}
-use Rattle.lp_token.specs.Tokens.{Token, Word, Mark, BeginsWith, SpellsTo, Spells, separated, is_filled}
-use Rattle.lp_token.specs.Laws.{spells-append, spells-split, spells-cons}
-use Rattle.lp_token.specs.Reading.{◌>>=◌, word_is, mark_is, is_blank_text}
+use Rattle.lp_token.specs.Tokens.{Token, Word, Mark, BeginsWith, SpellsTo, Spells, is_filled}
+use Rattle.lp_token.specs.Laws.{spells-append, spells-split}
+use Rattle.lp_token.specs.Reading.{word_is, mark_is, is_blank_text}
 use Rattle.lp_token.specs.Steps.{bind_some, test_some, some_same, word_is_found, word_is_again, mark_is_found, mark_is_again}
 use Rattle.lp_model.specs.declared.netlist.Instance.{Instance}
 use Rattle.lp_model.specs.Names.{Name}
@@ -20,10 +20,10 @@ use Rattle.lp_verilog.specs.declared.tree.Declaration.{Declaration}
 use Rattle.lp_verilog.specs.declared.tree.Declared.{Declared}
 use Rattle.lp_verilog.specs.declared.tree.Header.{Header}
 use Rattle.lp_verilog.specs.declared.tree.Tree.{Tree}
-use Rattle.lp_verilog.specs.Reading.{many, gathered, push, with_names, with_declaration, nothing_declared, identifier_at, names_at, next_declaration, declared_at, next_instance, instances_at, header_at, module_at, kind_at, where_some, where_none, instance_at}
+use Rattle.lp_verilog.specs.Reading.{many, push, with_names, with_declaration, nothing_declared, identifier_at, names_at, next_declaration, declared_at, next_instance, instances_at, header_at, module_at, where_none, instance_at}
 use Rattle.lp_verilog.proofs.Pieces.{identifier_found, identifier_again, shown_kind, kind_none, kind_named_none, kind_named_end}
-use Rattle.lp_verilog.proofs.Many.{Row, many_found, many_again, fold-push}
-use Rattle.lp_verilog.proofs.Productions.{Listed, names_found, names_again, shown, declaration_reads, instance_reads}
+use Rattle.lp_verilog.proofs.Many.{many_found, many_again, fold-push}
+use Rattle.lp_verilog.proofs.Productions.{names_found, names_again, shown, declaration_reads, instance_reads}
 
 -- ---- declared names, by kind
 

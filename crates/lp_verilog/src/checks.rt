@@ -59,7 +59,9 @@ fn is_connected(nets: &Table, instance: &Instance) -> bool
 fn are_connected(nets: &Table, instances: &[Instance]) -> bool
     ensures { result ≡ are_connected nets.now instances.now }
 {
-    instances.iter().all(|instance| is_connected(nets, instance))
+    instances
+        .iter()
+        .all(|instance| is_connected(nets, instance))
 }
 
 fn port(alloc: Global, inputs: &Table, name: &[u8]) -> Result<Port, NoMemory>

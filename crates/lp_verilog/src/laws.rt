@@ -5,5 +5,4 @@ ghost use Rattle.lp_model.specs.Verilog.{Reads};
 /// Each text denotes at most one netlist.
 pub fn one_netlist()
     ensures { (text : List ℕ) (a b : Module) → Reads text a → Reads text b → a ≡ b }
-{
-}
+{}

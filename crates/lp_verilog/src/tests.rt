@@ -3,7 +3,8 @@ use lp_model::Direction;
 use std::alloc::Global;
 use std::test::Fail;
 
-const SMALL: &[u8] = b"module t (a, b, y);\n  input a, b;\n  output y;\n  AND2 g (.A(a), .B(b), .Y(y));\nendmodule\n";
+const SMALL: &[u8] =
+    b"module t (a, b, y);\n  input a, b;\n  output y;\n  AND2 g (.A(a), .B(b), .Y(y));\nendmodule\n";
 
 fn is_read(alloc: Global, text: &[u8]) -> Result<bool, Fail> {
     Ok(read_netlist(alloc, text)?.is_some())

@@ -1,6 +1,6 @@
-use Rattle.std.proofs.Common.{◌≡◌, Some, ◌∙◌, sym, ap}
+use Rattle.std.proofs.Common.{◌≡◌, ◌∙◌, sym, ap}
 use Rattle.lp_token.specs.Steps.{some_same}
-use Rattle.lp_model.specs.Verilog.{module_of, port_of, Reads}
+use Rattle.lp_model.specs.Verilog.{port_of}
 use Rattle.lp_verilog.specs.declared.tree.Tree.{Tree}
 use Rattle.lp_model.specs.declared.netlist.Module.{Module}
 use Rattle.std.specs.Prelude.{map}
