@@ -40,14 +40,18 @@ fn library_with(rt: HostRuntime, old: &[u8], new: &[u8]) -> Result<Vec<u8>, Fail
 
 fn is_read(rt: HostRuntime, old: &[u8], new: &[u8]) -> Result<bool, Fail> {
     let text = library_with(rt, old, new)?;
-    let cells = read_library(rt.alloc(), text.as_slice()).ok().ok_or("memory is left")?;
+    let cells = read_library(rt.alloc(), text.as_slice())
+        .ok()
+        .ok_or("memory is left")?;
     Ok(cells.is_some())
 }
 
 #[test]
 fn one_cell(rt: HostRuntime) -> Result<(), Fail> {
     let text = library_with(rt, b"", b"")?;
-    let cells = read_library(rt.alloc(), text.as_slice()).ok().ok_or("memory is left")?;
+    let cells = read_library(rt.alloc(), text.as_slice())
+        .ok()
+        .ok_or("memory is left")?;
     let cells = cells.ok_or("the text is a library")?;
     assert_eq!(rt; cells.len(), 1);
     for cell in cells.as_slice() {
@@ -57,7 +61,8 @@ fn one_cell(rt: HostRuntime) -> Result<(), Fail> {
         assert_eq!(rt; cell.gnd.all(), b"VSS".as_slice());
         assert_eq!(rt; cell.pins.len(), 3);
         for pin in cell.pins.as_slice() {
-            let is_output = matches!(&pin.function, Some(Function::And(a, b)) if a.all() == b"A".as_slice() && b.all() == b"B".as_slice());
+            let is_output =
+                matches!(&pin.function, Some(Function::And(a, b)) if a.all() == b"A".as_slice() && b.all() == b"B".as_slice());
             assert_eq!(rt; is_output, pin.name.all() == b"Y".as_slice());
         }
     }
@@ -104,7 +109,10 @@ fn texts_off_the_form(rt: HostRuntime) -> Result<(), Fail> {
         (b"voltage_name : VDD", b"voltage_name : lp_v"),
         (b"primary_ground", b"primary_power"),
         (b"direction : input", b"direction : inout"),
-        (b"output ; function : \"A * B\" ; power_down_function : \"!VDD + VSS\" ;", b"input ;"),
+        (
+            b"output ; function : \"A * B\" ; power_down_function : \"!VDD + VSS\" ;",
+            b"input ;",
+        ),
         (b"  }\n", b"  } }\n"),
     ];
     for (old, new) in table {
