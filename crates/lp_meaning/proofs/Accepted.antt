@@ -60,4 +60,5 @@ reads-sound inputs design r =
       cells_sound = library-sound r.fit.both.library.library design.cells r.fit.both.library.denotes;
       names_free = r.fit.both.netlist.free;
       joined = joined.0;
-      apart = r.intent.apart }
+      apart = r.intent.apart;
+    }

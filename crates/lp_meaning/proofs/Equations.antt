@@ -36,9 +36,9 @@ under_self : (s : Supply) (margin : ℕ) → under s s margin ≡ false
 under_self s margin =
     ap (λ b. is_supplied s && (is_supplied s && b)) (le-ltb (voltage s.power + margin) (voltage s.power) (omega arith))
     ∙ (ap (λ b. is_supplied s && b) (no_and (is_supplied s)) ∙ no_and (is_supplied s)) where
-  no_and : (b : Bool) → (b && false) ≡ false
-  no_and true = refl
-  no_and false = refl
+      no_and : (b : Bool) → (b && false) ≡ false
+      no_and true = refl
+      no_and false = refl
 
 -- what one supply drives and reads is read as it is
 pub read_by_self : (o : Option Supply) (s : Supply) (margin : ℕ) (v : Tern) → (o ≡ None) ⊎ (o ≡ Some s) → read_by o s margin v ≡ v
@@ -102,14 +102,19 @@ variables-operands (Or a b) = refl
 module _ (design : Design) (sound : IsSound design) where
   abbrev pub cells : List Cell
   cells = design.cells
+
   abbrev pub intent : Intent
   intent = design.intent
+
   abbrev pub written : Module
   written = powered design.cells design.intent design.source
+
   abbrev pub environment : Environment
   environment = environment_of design
+
   abbrev pub power_port : Name
   power_port = supply_port design.intent.power
+
   abbrev pub gnd_port : Name
   gnd_port = supply_port design.intent.gnd
 
@@ -131,9 +136,9 @@ module _ (design : Design) (sound : IsSound design) where
   outside_gnd : source_of cells written gnd_port ≡ Some Outside
   outside_gnd = source_of-outside cells intent design.source intent.gnd
       (ap (λ b. bytes_eq power_port gnd_port || (b || false)) (same_name gnd_port) ∙ or_true (bytes_eq power_port gnd_port)) where
-    or_true : (b : Bool) → (b || true) ≡ true
-    or_true true = refl
-    or_true false = refl
+        or_true : (b : Bool) → (b || true) ≡ true
+        or_true true = refl
+        or_true false = refl
 
   power_net : (B : Assignment) → net_state cells written environment B power_port ≡ state_at B power_port
   power_net B = λ i. port_state cells written environment B power_port (outside_power i) (origin_power i)
@@ -190,11 +195,11 @@ module _ (design : Design) (sound : IsSound design) where
   same_function : (A B : Assignment) → ((n : Name) → logic_at B n ≡ logic_at A n) → (d : Driver) → DriverFits cells d → pin_function_value cells written environment B (powered_driver cells intent d) ≡ function_value A d
   same_function A B same d fits =
       value-same (expression_of d.function)
-        (λ pin. pin_reads cells written environment B (powered_driver cells intent d) (net_at (powered_instance cells intent d.instance) pin))
-        (λ pin. logic_or_X A (net_at d.instance pin))
-        (λ pin h.
-          ap (pin_reads cells written environment B (powered_driver cells intent d)) (net_at-operand cells intent d fits pin (subst (λ ns. has pin ns ≡ true) (variables-operands d.function) h))
-          ∙ (reads_net B d fits (net_at d.instance pin) ∙ logic_or_X-same A B same (net_at d.instance pin)))
+      (λ pin. pin_reads cells written environment B (powered_driver cells intent d) (net_at (powered_instance cells intent d.instance) pin))
+      (λ pin. logic_or_X A (net_at d.instance pin))
+      (λ pin h.
+      ap (pin_reads cells written environment B (powered_driver cells intent d)) (net_at-operand cells intent d fits pin (subst (λ ns. has pin ns ≡ true) (variables-operands d.function) h))
+      ∙ (reads_net B d fits (net_at d.instance pin) ∙ logic_or_X-same A B same (net_at d.instance pin)))
 
   -- an output is not powered down exactly where the one supply is on
   over-is : (d : Driver) → DriverFits cells d → over_nets cells written environment (powered_instance cells intent d.instance) d.cell (power_down_of d.cell) ≡ Either (Complement (Variable power_port)) (Complement (Variable gnd_port))
@@ -203,11 +208,11 @@ module _ (design : Design) (sound : IsSound design) where
       let apart = sound-apart d.cell fits.sound in
       let swapped : bytes_eq d.cell.power d.cell.gnd ≡ false = is_false (bytes_eq d.cell.power d.cell.gnd) (λ e. both_ways (bytes_eq d.cell.gnd d.cell.power) apart.gnd_power (subst (λ x. bytes_eq x d.cell.power ≡ true) ((bytes_eq-Decides d.cell.power d.cell.gnd).0 e) (same_name d.cell.power))) in
       let p : (cond (bytes_eq d.cell.power d.cell.gnd) (Complement (Variable (net_or_none cells written environment (net_at it d.cell.power)))) (Variable (net_or_none cells written environment (net_at it d.cell.power)))) ≡ Variable power_port =
-        ap (λ b. cond b (Complement (Variable (net_or_none cells written environment (net_at it d.cell.power)))) (Variable (net_or_none cells written environment (net_at it d.cell.power)))) swapped
-        ∙ ap (λ o. Variable (net_or_none cells written environment o)) (net_at-power cells intent d fits) in
+      ap (λ b. cond b (Complement (Variable (net_or_none cells written environment (net_at it d.cell.power)))) (Variable (net_or_none cells written environment (net_at it d.cell.power)))) swapped
+      ∙ ap (λ o. Variable (net_or_none cells written environment o)) (net_at-power cells intent d fits) in
       let g : (cond (bytes_eq d.cell.gnd d.cell.gnd) (Complement (Variable (net_or_none cells written environment (net_at it d.cell.gnd)))) (Variable (net_or_none cells written environment (net_at it d.cell.gnd)))) ≡ Complement (Variable gnd_port) =
-        ap (λ b. cond b (Complement (Variable (net_or_none cells written environment (net_at it d.cell.gnd)))) (Variable (net_or_none cells written environment (net_at it d.cell.gnd)))) (same_name d.cell.gnd)
-        ∙ ap (λ o. Complement (Variable (net_or_none cells written environment o))) (net_at-gnd cells intent d fits) in
+      ap (λ b. cond b (Complement (Variable (net_or_none cells written environment (net_at it d.cell.gnd)))) (Variable (net_or_none cells written environment (net_at it d.cell.gnd)))) (same_name d.cell.gnd)
+      ∙ ap (λ o. Complement (Variable (net_or_none cells written environment o))) (net_at-gnd cells intent d fits) in
       λ i. Either (Complement (p i)) (g i)
 
   not_down : (B : Assignment) (d : Driver) → DriverFits cells d → is_zero cells written environment (power_down cells written environment B (powered_instance cells intent d.instance) d.cell) ≡ is_supplied (supply B)
@@ -224,7 +229,7 @@ module _ (design : Design) (sound : IsSound design) where
     elsewhere n np ng (Some Outside) s =
         let driven : has_name n environment.inputs ≡ true = first-outside cells (has_name n (input_ports design.source)) (drivers cells design.source n) s in
         let none : origin_among environment.ports n ≡ None =
-          ap (λ b. cond b (Some intent.power) (cond (bytes_eq gnd_port n) (Some intent.gnd) None)) np ∙ ap (λ b. cond b (Some intent.gnd) None) ng in
+        ap (λ b. cond b (Some intent.power) (cond (bytes_eq gnd_port n) (Some intent.gnd) None)) np ∙ ap (λ b. cond b (Some intent.gnd) None) ng in
         (λ i. input_value cells written environment e B n (none i) (driven i))
         ∙ ap (λ x. kept (is_supplied x) (e.inputs n)) (nets_supply B ∙ one_supply)
     elsewhere n np ng (Some (Driven d)) s =

@@ -32,6 +32,7 @@ or_true false = refl
 module _ (design : Design) (sound : IsSound design) where
   abbrev cells : List Cell
   cells = design.cells
+
   abbrev written : Module
   written = powered design.cells design.intent design.source
 
@@ -64,7 +65,7 @@ module _ (design : Design) (sound : IsSound design) where
         let pp = or_parts (bytes_eq x.name c.power) (has_name c.power (pin_names ps)) p in
         let gg = or_parts (bytes_eq x.name c.gnd) (has_name c.gnd (pin_names ps)) g in
         ap (λ ds. ds ++ flat_map (driver_at (powered_instance cells design.intent it) c (supply_port o)) ps)
-          (with_none (powered_instance cells design.intent it) c x.name x.function (signal_apart it c e free x.name (bytes_eq-swap x.name c.power pp.0) (bytes_eq-swap x.name c.gnd gg.0)))
+        (with_none (powered_instance cells design.intent it) c x.name x.function (signal_apart it c e free x.name (bytes_eq-swap x.name c.power pp.0) (bytes_eq-swap x.name c.gnd gg.0)))
         ∙ pins_none it c e free ps pp.1 gg.1
 
     of_none : (it : Instance) (k : Option Cell) → cell_named cells it.target ≡ k → list_all (λ x. not (is_reserved x)) (names_in_instance it) ≡ true → drivers_of k (powered_instance cells design.intent it) (supply_port o) ≡ []
@@ -84,9 +85,9 @@ module _ (design : Design) (sound : IsSound design) where
     port_alone : has_name (supply_port o) (supply_ports design.intent) ≡ true → sources cells written (supply_port o) ≡ Outside ∷ []
     port_alone h =
         let inside : has_name (supply_port o) (input_ports written) ≡ true =
-          ap (has_name (supply_port o)) (input_ports-powered cells design.intent design.source)
-          ∙ (list_any-append (λ x. bytes_eq x (supply_port o)) (input_ports design.source) (supply_ports design.intent)
-          ∙ (ap (λ b. has_name (supply_port o) (input_ports design.source) || b) h ∙ or_true (has_name (supply_port o) (input_ports design.source)))) in
+        ap (has_name (supply_port o)) (input_ports-powered cells design.intent design.source)
+        ∙ (list_any-append (λ x. bytes_eq x (supply_port o)) (input_ports design.source) (supply_ports design.intent)
+        ∙ (ap (λ b. has_name (supply_port o) (input_ports design.source) || b) h ∙ or_true (has_name (supply_port o) (input_ports design.source)))) in
         let none = none_drives design.source.instances (free_parts cells design.intent o design.source sound.names_free).1 in
         λ i. cond (inside i) (Outside ∷ []) [] ++ map Driven (none i)
 
@@ -107,7 +108,7 @@ module _ (design : Design) (sound : IsSound design) where
       → nets_at (powered_instance cells design.intent it) pin ≡ map (λ x. x.net) (filter (λ x. bytes_eq x.pin pin) (supply_joins design.intent (Some c)))
   nets_joined it c pin e h =
       ap (map (λ x. x.net)) (filter-append (λ x. bytes_eq x.pin pin) it.connections (supply_joins design.intent (cell_named cells it.target))
-        ∙ (λ i. no_nets it.connections pin h i ++ filter (λ x. bytes_eq x.pin pin) (supply_joins design.intent (e i))))
+      ∙ (λ i. no_nets it.connections pin h i ++ filter (λ x. bytes_eq x.pin pin) (supply_joins design.intent (e i))))
 
   supplied_cell : (it : Instance) (k : Option Cell) → cell_named cells it.target ≡ k → is_joined it k ≡ true → IsSuppliedCell cells written (supply_ports design.intent) (powered_instance cells design.intent it) k
   supplied_cell it None e h = absurd (false≢true h)
@@ -115,13 +116,14 @@ module _ (design : Design) (sound : IsSound design) where
       let apart = sound-apart c (cell_named-sound cells it.target c e sound.cells_sound) in
       let connected = joined-connected it c h in
       let at_power : nets_at (powered_instance cells design.intent it) c.power ≡ supply_port design.intent.power ∷ [] =
-        nets_joined it c c.power e (all_outside (connected_pins it) (pin_names c.pins) c.power connected.among apart.power)
-        ∙ (λ i. map (λ x. x.net) (cond (same_name c.power i) (joined_to c.power (supply_port design.intent.power) ∷ cond (apart.gnd_power i) (joined_to c.gnd (supply_port design.intent.gnd) ∷ []) []) (cond (apart.gnd_power i) (joined_to c.gnd (supply_port design.intent.gnd) ∷ []) []))) in
+      nets_joined it c c.power e (all_outside (connected_pins it) (pin_names c.pins) c.power connected.among apart.power)
+      ∙ (λ i. map (λ x. x.net) (cond (same_name c.power i) (joined_to c.power (supply_port design.intent.power) ∷ cond (apart.gnd_power i) (joined_to c.gnd (supply_port design.intent.gnd) ∷ []) []) (cond (apart.gnd_power i) (joined_to c.gnd (supply_port design.intent.gnd) ∷ []) []))) in
       let at_gnd : nets_at (powered_instance cells design.intent it) c.gnd ≡ supply_port design.intent.gnd ∷ [] =
-        nets_joined it c c.gnd e (all_outside (connected_pins it) (pin_names c.pins) c.gnd connected.among apart.gnd)
-        ∙ (λ i. map (λ x. x.net) (cond (bytes_eq-swap c.gnd c.power apart.gnd_power i) (joined_to c.power (supply_port design.intent.power) ∷ cond (same_name c.gnd i) (joined_to c.gnd (supply_port design.intent.gnd) ∷ []) []) (cond (same_name c.gnd i) (joined_to c.gnd (supply_port design.intent.gnd) ∷ []) []))) in
-      (subst (IsJoined cells written (supply_ports design.intent)) (sym at_power) (port_alone design.intent.power power_there, power_there),
-       subst (IsJoined cells written (supply_ports design.intent)) (sym at_gnd) (port_alone design.intent.gnd gnd_there, gnd_there))
+      nets_joined it c c.gnd e (all_outside (connected_pins it) (pin_names c.pins) c.gnd connected.among apart.gnd)
+      ∙ (λ i. map (λ x. x.net) (cond (bytes_eq-swap c.gnd c.power apart.gnd_power i) (joined_to c.power (supply_port design.intent.power) ∷ cond (same_name c.gnd i) (joined_to c.gnd (supply_port design.intent.gnd) ∷ []) []) (cond (same_name c.gnd i) (joined_to c.gnd (supply_port design.intent.gnd) ∷ []) []))) in (
+        subst (IsJoined cells written (supply_ports design.intent)) (sym at_power) (port_alone design.intent.power power_there, power_there),
+        subst (IsJoined cells written (supply_ports design.intent)) (sym at_gnd) (port_alone design.intent.gnd gnd_there, gnd_there),
+      )
 
   all_supplied : (its : List Instance) → list_all (λ it. is_joined it (cell_named cells it.target)) its ≡ true → AllSupplied cells written (supply_ports design.intent) (map (powered_instance cells design.intent) its)
   all_supplied [] h = tt

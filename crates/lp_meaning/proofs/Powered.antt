@@ -187,10 +187,10 @@ module _ (cells : List Cell) (i : Intent) where
   pub source_of-outside : (m : Module) (o : Name) → has_name (supply_port o) (supply_port i.power ∷ supply_port i.gnd ∷ []) ≡ true → source_of cells (powered cells i m) (supply_port o) ≡ Some Outside
   source_of-outside m o h =
       let inside : has_name (supply_port o) (input_ports (powered cells i m)) ≡ true =
-            ap (has_name (supply_port o)) (input_ports-powered m)
-            ∙ (list_any-append (λ x. bytes_eq x (supply_port o)) (input_ports m) (supply_port i.power ∷ supply_port i.gnd ∷ [])
-            ∙ (ap (λ b. has_name (supply_port o) (input_ports m) || b) h ∙ or_true (has_name (supply_port o) (input_ports m)))) in
+      ap (has_name (supply_port o)) (input_ports-powered m)
+      ∙ (list_any-append (λ x. bytes_eq x (supply_port o)) (input_ports m) (supply_port i.power ∷ supply_port i.gnd ∷ [])
+      ∙ (ap (λ b. has_name (supply_port o) (input_ports m) || b) h ∙ or_true (has_name (supply_port o) (input_ports m)))) in
       ap (λ b. first_source (cond b (Outside ∷ []) [] ++ map Driven (drivers cells (powered cells i m) (supply_port o)))) inside where
-    or_true : (b : Bool) → (b || true) ≡ true
-    or_true true = refl
-    or_true false = refl
+        or_true : (b : Bool) → (b || true) ≡ true
+        or_true true = refl
+        or_true false = refl

@@ -62,16 +62,16 @@ module _ (design : Design) where
   looks_from e n A B None same = refl
   looks_from e n A B (Some Outside) same =
       ap (λ s. kept (is_supplied s) (e.inputs n))
-        (same_primary A B
-          (same (Origin design.intent.power) (has_key-head (Origin design.intent.power) (Origin design.intent.gnd ∷ [])))
-          (same (Origin design.intent.gnd) (has_key-tail (Origin design.intent.gnd) (Origin design.intent.power) (Origin design.intent.gnd ∷ []) (has_key-head (Origin design.intent.gnd) []))))
+      (same_primary A B
+      (same (Origin design.intent.power) (has_key-head (Origin design.intent.power) (Origin design.intent.gnd ∷ [])))
+      (same (Origin design.intent.gnd) (has_key-tail (Origin design.intent.gnd) (Origin design.intent.power) (Origin design.intent.gnd ∷ []) (has_key-head (Origin design.intent.gnd) []))))
   looks_from e n A B (Some (Driven d)) same =
       let nets = flat_map (λ p. net_keys (net_at d.instance p)) (operands d.function) in
       let p = same (Origin design.intent.power) (has_key-head (Origin design.intent.power) (Origin design.intent.gnd ∷ nets)) in
       let g = same (Origin design.intent.gnd) (has_key-tail (Origin design.intent.gnd) (Origin design.intent.power) (Origin design.intent.gnd ∷ nets) (has_key-head (Origin design.intent.gnd) nets)) in
       let f : function_value A d ≡ function_value B d =
-        value-same (expression_of d.function) (λ pin. logic_or_X A (net_at d.instance pin)) (λ pin. logic_or_X B (net_at d.instance pin))
-          (λ pin h. same_pin A B d (map Origin (origins design.intent)) same pin (subst (λ ns. has pin ns ≡ true) (variables-operands d.function) h) (net_at d.instance pin) refl) in
+      value-same (expression_of d.function) (λ pin. logic_or_X A (net_at d.instance pin)) (λ pin. logic_or_X B (net_at d.instance pin))
+      (λ pin h. same_pin A B d (map Origin (origins design.intent)) same pin (subst (λ ns. has pin ns ≡ true) (variables-operands d.function) h) (net_at d.instance pin) refl) in
       (λ i. kept (is_supplied (same_primary A B p g i)) (f i))
 
   looks : (e : Event) (q : Registers) → LooksAt (intent_reads design) (intent_equation design e q)
@@ -108,9 +108,9 @@ module _ (design : Design) where
     one_supply : (A B : Assignment) → ((o : Name) → A (Origin o) ≡ State (origin_state design.intent e o)) → ((port : Name) → B (Origin port) ≡ pins (Origin port) B) → supply design sound B ≡ primary design.intent A
     one_supply A B a b =
         let p : state_at B (supply_port design.intent.power) ≡ state_at A design.intent.power =
-          ap state_in (b (supply_port design.intent.power)) ∙ (ap (given_state design.cells (powered design.cells design.intent design.source) (environment_of design) e) (origin_power design sound) ∙ sym (ap state_in (a design.intent.power) ∙ state_of_power)) in
+        ap state_in (b (supply_port design.intent.power)) ∙ (ap (given_state design.cells (powered design.cells design.intent design.source) (environment_of design) e) (origin_power design sound) ∙ sym (ap state_in (a design.intent.power) ∙ state_of_power)) in
         let g : state_at B (supply_port design.intent.gnd) ≡ state_at A design.intent.gnd =
-          ap state_in (b (supply_port design.intent.gnd)) ∙ (ap (given_state design.cells (powered design.cells design.intent design.source) (environment_of design) e) (origin_gnd design sound) ∙ sym (ap state_in (a design.intent.gnd) ∙ state_of_gnd)) in
+        ap state_in (b (supply_port design.intent.gnd)) ∙ (ap (given_state design.cells (powered design.cells design.intent design.source) (environment_of design) e) (origin_gnd design sound) ∙ sym (ap state_in (a design.intent.gnd) ∙ state_of_gnd)) in
         λ i. record { power = p i; gnd = g i }
 
     to_pins-settles : (A : Assignment) → Settles (intent_equation design e q) A → Settles pins (to_pins A)
@@ -135,7 +135,8 @@ module _ (design : Design) where
     pins_once once = record {
       settled = to_pins once.settled;
       settles = to_pins-settles once.settled once.settles;
-      only = λ B s i k. only_pins once.settled B once.only s k i }
+      only = λ B s i k. only_pins once.settled B once.only s k i;
+    }
 
     -- an output shows the same on both sides
     rail_is : (A : Assignment) (o : Option Source) → (rail design A o ≡ None) ⊎ (rail design A o ≡ Some (primary design.intent A))
@@ -158,6 +159,7 @@ module _ (design : Design) where
   -- both runs, from any last assignments on, with equal traces
   abbrev intent_judge : Judge
   intent_judge = under_intent design
+
   abbrev pins_judge : Judge
   pins_judge = by_pins design.cells (powered design.cells design.intent design.source) (environment_of design)
 
@@ -213,4 +215,5 @@ module _ (design : Design) where
     headline events q within = record {
       intent = record { run = intent_run events q; runs = intent_runs before_all events q; only = intent_only before_all events q };
       pins = record { run = pins_run events q; runs = pins_runs before_all events q; only = pins_only before_all events q };
-      traces = same_traces (output_ports design.source) events q }
+      traces = same_traces (output_ports design.source) events q;
+    }

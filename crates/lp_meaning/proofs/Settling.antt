@@ -143,4 +143,5 @@ module _ (reads : Key → List Key) where
     settles_once order o covers = record {
       settled = assigned order;
       settles = settled_at order o covers;
-      only = λ other s i k. agree other (assigned order) s (settled_at order o covers) order o covers k i }
+      only = λ other s i k. agree other (assigned order) s (settled_at order o covers) order o covers k i;
+    }

@@ -64,7 +64,8 @@ tree-well_formed t s d =
       wires_named = wires-named t.declarations four.0;
       instances_named = four.1;
       names_once = subst (λ ns. is_distinct (ns ++ (wires_of t ++ instance_names t.instances)) ≡ true) same d.names_once;
-      nets_declared = subst (λ ns. all_among (flat_map nets_of t.instances) (ns ++ wires_of t) ≡ true) same d.before_use }
+      nets_declared = subst (λ ns. all_among (flat_map nets_of t.instances) (ns ++ wires_of t) ≡ true) same d.before_use;
+    }
 
 -- what is read is well formed
 pub reads-well_formed : (text : List ℕ) (m : Module) → Reads text m → IsWellFormed m
@@ -78,8 +79,8 @@ distinct-insert (x ∷ xs) zs y d h =
     let apart = or_parts (bytes_eq x y) (has_name y (xs ++ zs)) h in
     let before = or_parts (has_name x xs) (has_name x zs) (sym (list_any-append (λ m. bytes_eq m x) xs zs) ∙ not-true _ parts.0) in
     let absent : has_name x (xs ++ (y ∷ zs)) ≡ false =
-      list_any-append (λ m. bytes_eq m x) xs (y ∷ zs)
-      ∙ (λ i. before.0 i || (bytes_eq-swap x y apart.0 i || before.1 i)) in
+    list_any-append (λ m. bytes_eq m x) xs (y ∷ zs)
+    ∙ (λ i. before.0 i || (bytes_eq-swap x y apart.0 i || before.1 i)) in
     and_from _ _ (ap not absent) (distinct-insert xs zs y parts.1 apart.1)
 
 free_list : List Name → Bool
@@ -134,8 +135,10 @@ filled-append (x ∷ xs) ys h = refl
 module _ (design : Design) (sound : IsSound design) (well : IsWellFormed design.source) (power_free : is_free_name design.intent.power ≡ true) (gnd_free : is_free_name design.intent.gnd ≡ true) where
   abbrev cells : List Cell
   cells = design.cells
+
   abbrev source : Module
   source = design.source
+
   abbrev ports : List Name
   ports = supply_ports design.intent
 
@@ -149,7 +152,7 @@ module _ (design : Design) (sound : IsSound design) (well : IsWellFormed design.
       let named = and_parts (is_identifier c.power && is_identifier c.gnd) _ one.1 in
       let both = and_parts (is_identifier c.power) (is_identifier c.gnd) named.0 in
       and_from _ _ (and_from _ _ both.0 (supply_port-identifier design.intent.power power_free))
-        (and_from _ _ (and_from _ _ both.1 (supply_port-identifier design.intent.gnd gnd_free)) refl)
+      (and_from _ _ (and_from _ _ both.1 (supply_port-identifier design.intent.gnd gnd_free)) refl)
 
   instance-named : (it : Instance) → is_instance it ≡ true → is_joined it (cell_named cells it.target) ≡ true → is_instance (powered_instance cells design.intent it) ≡ true
   instance-named it h j =
@@ -157,7 +160,7 @@ module _ (design : Design) (sound : IsSound design) (well : IsWellFormed design.
       let two = and_parts (is_identifier it.name) _ one.1 in
       let three = and_parts (is_filled it.connections) _ two.1 in
       and_from _ _ one.0 (and_from _ _ two.0 (and_from _ _ (filled-append it.connections (supply_joins design.intent (cell_named cells it.target)) three.0)
-        (list_all-append is_connection it.connections (supply_joins design.intent (cell_named cells it.target)) ∙ and_from _ _ three.1 (joins-named it (cell_named cells it.target) j))))
+      (list_all-append is_connection it.connections (supply_joins design.intent (cell_named cells it.target)) ∙ and_from _ _ three.1 (joins-named it (cell_named cells it.target) j))))
 
   instances-named : (its : List Instance) → list_all is_instance its ≡ true → list_all (λ it. is_joined it (cell_named cells it.target)) its ≡ true → list_all is_instance (map (powered_instance cells design.intent) its) ≡ true
   instances-named [] h j = refl
@@ -179,8 +182,8 @@ module _ (design : Design) (sound : IsSound design) (well : IsWellFormed design.
       let parts = free_parts cells design.intent o source sound.names_free in
       let free : Name → Bool = λ x. not (is_reserved x) in
       free-no_port o (port_names source ++ others)
-        (list_all-append free (port_names source) others
-        ∙ and_from _ _ parts.0 (list_all-append free source.wires (instance_names source.instances) ∙ and_from _ _ (wires-free source sound.names_free) (instance_names-free source.instances parts.1)))
+      (list_all-append free (port_names source) others
+      ∙ and_from _ _ parts.0 (list_all-append free source.wires (instance_names source.instances) ∙ and_from _ _ (wires-free source sound.names_free) (instance_names-free source.instances parts.1)))
 
   absent-both : has_name (supply_port design.intent.power) (port_names source ++ (supply_port design.intent.gnd ∷ others)) ≡ false
   absent-both =
@@ -192,8 +195,8 @@ module _ (design : Design) (sound : IsSound design) (well : IsWellFormed design.
   names-once : is_distinct (port_names source ++ (supply_port design.intent.power ∷ supply_port design.intent.gnd ∷ others)) ≡ true
   names-once =
       distinct-insert (port_names source) (supply_port design.intent.gnd ∷ others) (supply_port design.intent.power)
-        (distinct-insert (port_names source) others (supply_port design.intent.gnd) well.names_once (absent design.intent.gnd))
-        absent-both
+      (distinct-insert (port_names source) others (supply_port design.intent.gnd) well.names_once (absent design.intent.gnd))
+      absent-both
 
   nets-among : (its : List Instance) → all_among (flat_map nets_of its) (port_names source ++ source.wires) ≡ true
       → all_among (flat_map nets_of (map (powered_instance cells design.intent) its)) ((port_names source ++ ports) ++ source.wires) ≡ true
@@ -201,20 +204,20 @@ module _ (design : Design) (sound : IsSound design) (well : IsWellFormed design.
   nets-among (it ∷ its) h =
       let inside : Name → Bool = λ n. has_name n ((port_names source ++ ports) ++ source.wires) in
       let parts = and_parts (all_among (nets_of it) (port_names source ++ source.wires)) (all_among (flat_map nets_of its) (port_names source ++ source.wires))
-        (sym (list_all-append (λ n. has_name n (port_names source ++ source.wires)) (nets_of it) (flat_map nets_of its)) ∙ h) in
+      (sym (list_all-append (λ n. has_name n (port_names source ++ source.wires)) (nets_of it) (flat_map nets_of its)) ∙ h) in
       list_all-append inside (nets_of (powered_instance cells design.intent it)) (flat_map nets_of (map (powered_instance cells design.intent) its))
       ∙ and_from _ _
-        (ap (list_all inside) (map-append (λ c. c.net) it.connections (supply_joins design.intent (cell_named cells it.target)))
-          ∙ (list_all-append inside (nets_of it) (map (λ c. c.net) (supply_joins design.intent (cell_named cells it.target)))
-          ∙ and_from _ _ (all-middle (nets_of it) (port_names source) ports source.wires parts.0) (joins-inside (cell_named cells it.target))))
-        (nets-among its parts.1) where
-    joins-inside : (k : Option Cell) → all_among (map (λ c. c.net) (supply_joins design.intent k)) ((port_names source ++ ports) ++ source.wires) ≡ true
-    joins-inside None = refl
-    joins-inside (Some c) =
-        let p : has_name (supply_port design.intent.power) ports ≡ true = ap (λ b. b || (bytes_eq (supply_port design.intent.gnd) (supply_port design.intent.power) || false)) (same_name (supply_port design.intent.power)) in
-        let g : has_name (supply_port design.intent.gnd) ports ≡ true = ap (λ b. bytes_eq (supply_port design.intent.power) (supply_port design.intent.gnd) || (b || false)) (same_name (supply_port design.intent.gnd)) ∙ or_true (bytes_eq (supply_port design.intent.power) (supply_port design.intent.gnd)) in
-        and_from _ _ (has-front (supply_port design.intent.power) (port_names source ++ ports) source.wires (has-back (supply_port design.intent.power) (port_names source) ports p))
-          (and_from _ _ (has-front (supply_port design.intent.gnd) (port_names source ++ ports) source.wires (has-back (supply_port design.intent.gnd) (port_names source) ports g)) refl)
+      (ap (list_all inside) (map-append (λ c. c.net) it.connections (supply_joins design.intent (cell_named cells it.target)))
+      ∙ (list_all-append inside (nets_of it) (map (λ c. c.net) (supply_joins design.intent (cell_named cells it.target)))
+      ∙ and_from _ _ (all-middle (nets_of it) (port_names source) ports source.wires parts.0) (joins-inside (cell_named cells it.target))))
+      (nets-among its parts.1) where
+        joins-inside : (k : Option Cell) → all_among (map (λ c. c.net) (supply_joins design.intent k)) ((port_names source ++ ports) ++ source.wires) ≡ true
+        joins-inside None = refl
+        joins-inside (Some c) =
+            let p : has_name (supply_port design.intent.power) ports ≡ true = ap (λ b. b || (bytes_eq (supply_port design.intent.gnd) (supply_port design.intent.power) || false)) (same_name (supply_port design.intent.power)) in
+            let g : has_name (supply_port design.intent.gnd) ports ≡ true = ap (λ b. bytes_eq (supply_port design.intent.power) (supply_port design.intent.gnd) || (b || false)) (same_name (supply_port design.intent.gnd)) ∙ or_true (bytes_eq (supply_port design.intent.power) (supply_port design.intent.gnd)) in
+            and_from _ _ (has-front (supply_port design.intent.power) (port_names source ++ ports) source.wires (has-back (supply_port design.intent.power) (port_names source) ports p))
+            (and_from _ _ (has-front (supply_port design.intent.gnd) (port_names source ++ ports) source.wires (has-back (supply_port design.intent.gnd) (port_names source) ports g)) refl)
 
   -- the written netlist is well formed
   pub powered-well_formed : IsWellFormed (powered cells design.intent source)
@@ -222,11 +225,12 @@ module _ (design : Design) (sound : IsSound design) (well : IsWellFormed design.
     named = well.named;
     ported = filled-append source.ports (map supply_input (origins design.intent)) well.ported;
     ports_named = ap (list_all is_identifier) port_names-powered
-      ∙ (list_all-append is_identifier (port_names source) ports
-      ∙ and_from _ _ well.ports_named (and_from _ _ (supply_port-identifier design.intent.power power_free) (and_from _ _ (supply_port-identifier design.intent.gnd gnd_free) refl)));
+        ∙ (list_all-append is_identifier (port_names source) ports
+        ∙ and_from _ _ well.ports_named (and_from _ _ (supply_port-identifier design.intent.power power_free) (and_from _ _ (supply_port-identifier design.intent.gnd gnd_free) refl)));
     wires_named = well.wires_named;
     instances_named = instances-named source.instances well.instances_named sound.joined;
     names_once = (λ i. is_distinct (port_names-powered i ++ (source.wires ++ instance_names-powered source.instances i)))
-      ∙ (ap is_distinct (append_assoc (port_names source) ports others) ∙ names-once);
+        ∙ (ap is_distinct (append_assoc (port_names source) ports others) ∙ names-once);
     nets_declared = ap (λ ns. all_among (flat_map nets_of (map (powered_instance cells design.intent) source.instances)) (ns ++ source.wires)) port_names-powered
-      ∙ nets-among source.instances well.nets_declared }
+        ∙ nets-among source.instances well.nets_declared;
+  }

@@ -76,7 +76,8 @@ environment_of design = record {
   inputs = input_ports design.source;
   drivers = λ n. primary_nets design.intent;
   receivers = λ n. primary_nets design.intent;
-  margin = design.margin }
+  margin = design.margin;
+}
 
 -- at these events and this state both runs exist, each is the only one, and the outputs of the source show the same
 pub record RunAlike (design : Design) (netlist : Module) (events : List Event) (q : Registers) : Type 0 where

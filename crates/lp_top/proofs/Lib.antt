@@ -1,0 +1,6 @@
+pub mod AcceptingLaws
+pub mod DesignLaws
+pub mod InsertingLaws
+pub mod ReadingLaws
+pub mod RunningLaws
+pub mod WordsLaws

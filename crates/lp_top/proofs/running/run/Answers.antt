@@ -1,0 +1,66 @@
+use Rattle.std.proofs.Common.{◌≡◌, true, false, Some, None, sym, ◌∙◌, ap, subst}
+use Rattle.std.proofs.lemmas.Bool.{both_ways}
+use Rattle.std.specs.Option.{option_map}
+use Rattle.lp_text.specs.Shelf.{Files}
+use Rattle.lp_top.specs.declared.outcome.Outcome.{Outcome}
+use Rattle.lp_top.specs.declared.outcome.Outcome.TheVariants as outcomes
+use Rattle.lp_top.specs.declared.outcome.UsageFault.TheVariants as usages
+use Rattle.lp_top.specs.Words.{CommandFiles, IsCommand, clashes, files_of, command_of}
+use Rattle.lp_top.specs.Ran.{ByWords, ByFiles, ByCounts, ByMissed, Completes, HoldsHeadline}
+use Rattle.lp_top.proofs.WordsLaws.{command-found}
+use Rattle.lp_top.proofs.RunningLaws.{kept, words-good, same_command, no_command, counts-join, files-join, missed-join, completes, completes-kept, headline-files}
+use Rattle.lp_top.proofs.running.run.Goals as goal
+
+pub returns-in-None-clause-words : goal.returns-in-None-clause-words
+returns-in-None-clause-words g c =
+    kept (ByWords c.args.words.now) (outcomes.Usage usages.Form) c.tell.result c.tell.ensures.kept (λ b is. no_command c.args.words.now b (sym c.in-None.ensures) is) tt
+
+pub returns-in-None-clause-complete : goal.returns-in-None-clause-complete
+returns-in-None-clause-complete g c b is apart = absurd (no_command c.args.words.now b (sym c.in-None.ensures) is)
+
+pub returns-then-has_clash-clause-words : goal.returns-then-has_clash-clause-words
+returns-then-has_clash-clause-words g c =
+    let found : IsCommand c.args.words.now (files_of c.in-Some.command) = command-found c.args.words.now (files_of c.in-Some.command) (sym c.in-Some.ensures) in
+    kept (ByWords c.args.words.now) (outcomes.Usage usages.Files) c.tell-then-has_clash.result c.tell-then-has_clash.ensures.kept
+    (files_of c.in-Some.command, (found, sym c.has_clash.ensures ∙ c.if-has_clash.true)) tt
+
+pub returns-then-has_clash-clause-complete : goal.returns-then-has_clash-clause-complete
+returns-then-has_clash-clause-complete g c b is apart =
+    let same : files_of c.in-Some.command ≡ b = same_command c.args.words.now (files_of c.in-Some.command) b (sym c.in-Some.ensures) is in
+    absurd (both_ways (clashes b) apart (subst (λ x. clashes x ≡ true) same (sym c.has_clash.ensures ∙ c.if-has_clash.true)))
+
+pub returns-clause-words : goal.returns-clause-words
+returns-clause-words g c =
+    let found : IsCommand c.args.words.now (files_of c.in-Some.command) = command-found c.args.words.now (files_of c.in-Some.command) (sym c.in-Some.ensures) in
+    kept (ByWords c.args.words.now) c.attempt-outcome.result c.tell-2.result c.tell-2.ensures.kept
+    (words-good c.args.words.now (files_of c.in-Some.command) found (sym c.has_clash.ensures ∙ c.if-has_clash.false) c.attempt-outcome.result c.attempt-outcome.ensures.no_usage) tt
+
+pub returns-clause-files : goal.returns-clause-files
+returns-clause-files g c b is apart =
+    let same : files_of c.in-Some.command ≡ b = same_command c.args.words.now (files_of c.in-Some.command) b (sym c.in-Some.ensures) is in
+    subst (λ x. ByFiles x (g.S.Shelf.held c.args.shelf.now) (g.S.Shelf.held c.tell-2.new.shelf) c.tell-2.result) same
+    (files-join (files_of c.in-Some.command) (g.S.Shelf.held c.args.shelf.now) (g.S.Shelf.held c.tell-2.new.shelf) c.attempt-outcome.result c.tell-2.result
+    (subst (λ h. ByFiles (files_of c.in-Some.command) (g.S.Shelf.held c.args.shelf.now) h c.attempt-outcome.result) (sym c.tell-2.ensures.keeps_held) c.attempt-outcome.ensures.files)
+    c.tell-2.ensures.kept)
+
+pub returns-clause-counts : goal.returns-clause-counts
+returns-clause-counts g c =
+    counts-join (g.S.Shelf.faults c.args.shelf.now) (g.S.Shelf.faults c.attempt-outcome.new.shelf) (g.S.Shelf.faults c.tell-2.new.shelf) c.attempt-outcome.result c.tell-2.result
+    c.attempt-outcome.ensures.counts c.tell-2.ensures.counts c.tell-2.ensures.kept
+
+pub returns-clause-misses : goal.returns-clause-misses
+returns-clause-misses g c b is apart =
+    let same : files_of c.in-Some.command ≡ b = same_command c.args.words.now (files_of c.in-Some.command) b (sym c.in-Some.ensures) is in
+    subst (λ x. ByMissed 1 x (g.S.Shelf.missed c.args.shelf.now) (g.S.Shelf.missed c.tell-2.new.shelf) (g.S.Shelf.calls c.args.shelf.now) (g.S.Shelf.calls c.tell-2.new.shelf) c.tell-2.result) same
+    (missed-join (files_of c.in-Some.command) (g.S.Shelf.missed c.args.shelf.now) (g.S.Shelf.missed c.attempt-outcome.new.shelf) (g.S.Shelf.missed c.tell-2.new.shelf)
+    (g.S.Shelf.calls c.args.shelf.now) (g.S.Shelf.calls c.attempt-outcome.new.shelf) (g.S.Shelf.calls c.tell-2.new.shelf) c.attempt-outcome.result c.tell-2.result
+    c.attempt-outcome.ensures.misses c.tell-2.ensures.keeps_missed c.tell-2.ensures.counted c.tell-2.ensures.kept)
+
+pub returns-clause-complete : goal.returns-clause-complete
+returns-clause-complete g c b is apart =
+    completes-kept b (g.S.Shelf.held c.args.shelf.now) (g.S.Shelf.held c.tell-2.new.shelf) (g.S.Shelf.faults c.args.shelf.now) (g.S.Shelf.faults c.tell-2.new.shelf) c.attempt-outcome.result c.tell-2.result
+    (returns-clause-files g c b is apart) (returns-clause-counts g c) c.attempt-outcome.ensures.no_usage c.tell-2.ensures.kept
+
+pub returns-clause-headline : goal.returns-clause-headline
+returns-clause-headline g c b is apart =
+    headline-files b (g.S.Shelf.held c.args.shelf.now) (g.S.Shelf.held c.tell-2.new.shelf) c.tell-2.result apart (returns-clause-files g c b is apart)

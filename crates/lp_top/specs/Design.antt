@@ -1,0 +1,15 @@
+-- The inputs of an insertion, and when it is refused.
+use Rattle.std.specs.Prelude.{ℕ, List, Result, Ok, Err}
+use Rattle.lp_meaning.specs.Faults.{Inputs, FirstFault}
+use Rattle.lp_top.specs.declared.design.Written.{Written}
+use Rattle.lp_top.specs.declared.design.Refusal.{Refusal}
+use Rattle.lp_top.specs.declared.design.Refusal.TheVariants as refusals
+
+abbrev pub inputs_of : List (List ℕ) → List ℕ → List ℕ → Inputs
+inputs_of libraries netlist intent = record { libraries = libraries; netlist = netlist; intent = intent }
+
+-- a fault is the first one of the inputs
+abbrev pub RefusedBy : Inputs → Result Written Refusal → Type 0
+RefusedBy inputs (Ok w) = Unit {0}
+RefusedBy inputs (Err (refusals.Fault line)) = FirstFault inputs line
+RefusedBy inputs (Err refusals.NoMemory) = Unit {0}

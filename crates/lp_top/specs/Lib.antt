@@ -1,0 +1,7 @@
+pub mod Accepting
+pub mod Design
+pub mod Inserting
+pub mod Outcomes
+pub mod Ran
+pub mod Reading
+pub mod Words
