@@ -1,5 +1,5 @@
 -- The stages of an insertion: what they give and their faults.
-use Rattle.std.proofs.Common.{◌≡◌, ℕ, ◌≤◌, ◌<◌, length, get_or, arith, List, [], ◌∷◌, Option, Some, None, ◌+◌, ◌^◌, inl, inr, refl, sym, ◌∙◌, ap, subst}
+use Rattle.std.proofs.Common.{◌≡◌, ℕ, ◌≤◌, ◌<◌, length, get_or, arith, List, [], ◌∷◌, Option, Some, None, ◌+◌, ◌^◌, inl, inr, refl, sym, ◌∙◌, subst}
 use Rattle.std.specs.Prelude.{Result, Ok, Err, IfOk}
 use Rattle.lp_text.specs.declared.memory.NoMemory.{NoMemory as Memory}
 use Rattle.lp_model.specs.declared.cell.Cell.{Cell}
@@ -13,7 +13,7 @@ use Rattle.lp_meaning.specs.Faults.{not_yet, Inputs, HasLoop, HasCells, ReadsBot
 use Rattle.lp_top.specs.Design.{inputs_of}
 use Rattle.lp_top.specs.declared.design.Refusal.{Refusal}
 use Rattle.lp_top.specs.declared.design.Refusal.TheVariants as refusals
-use Rattle.lp_top.specs.Accepting.{IsLine, RefusesBy, OrFault, DenotesCells, Nothing, Misfits, Fitting, Ordered, Looped, Judged, Unjudged, IsAccepted, design_of}
+use Rattle.lp_top.specs.Accepting.{IsLine, RefusesBy, OrFault, DenotesCells, Nothing, Fitting, Ordered, Looped, Judged, Unjudged, IsAccepted, design_of}
 use Rattle.lp_top.specs.declared.accepting.Accepted.{Accepted}
 use Rattle.lp_meaning.specs.Sound.{IsOrdered}
 

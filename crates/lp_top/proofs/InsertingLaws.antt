@@ -1,10 +1,10 @@
 -- The steps of an insertion, joined.
-use Rattle.std.proofs.Common.{◌≡◌, ℕ, suc, zero, ◌+◌, ◌≤◌, ◌<◌, Bool, true, false, ◌||◌, List, [], ◌∷◌, ◌++◌, length, map, take, Option, Some, None, Bor, ◌⊎◌, inl, inr, refl, sym, ◌∙◌, ap, subst, arith, add-one, zero-add}
+use Rattle.std.proofs.Common.{◌≡◌, ℕ, suc, ◌+◌, ◌≤◌, Bool, true, false, ◌||◌, List, length, map, Option, Some, None, Bor, inl, inr, refl, sym, ◌∙◌, ap, subst, arith, add-one, zero-add}
 use Rattle.std.specs.Option.{option_map, IfSome}
 use Rattle.std.specs.Prelude.{nat_lt}
 use Rattle.std.proofs.lemmas.Bool.{both_ways, ltb-false}
 use Rattle.std.proofs.lemmas.List.{length-map}
-use Rattle.lp_text.specs.Shelf.{Files, Faults, count_up, content, with_file}
+use Rattle.lp_text.specs.Shelf.{Files, Faults}
 use Rattle.lp_model.specs.Names.{Name}
 use Rattle.lp_meaning.specs.Faults.{FirstFault}
 use Rattle.lp_meaning.specs.Promise.{IsWritten, HeadlineHolds}
@@ -12,7 +12,7 @@ use Rattle.lp_top.specs.declared.outcome.Outcome.{Outcome}
 use Rattle.lp_top.specs.declared.outcome.Outcome.TheVariants.{Done, Refused, TooLong, Usage, ReadFault, WriteFault, NoMemory}
 use Rattle.lp_top.specs.Reading.{count_more, HoldsAll}
 use Rattle.lp_top.specs.Words.{CommandFiles, clashes, input_files, inputs_in}
-use Rattle.lp_top.specs.Ran.{Texts, Stores, Stopped, ByFiles, ByCause, ByMissed, MissedOutput, HoldsPart}
+use Rattle.lp_top.specs.Ran.{Texts, ByFiles, ByCause, ByMissed}
 use Rattle.lp_top.specs.Inserting.{inputs_read, StoresBoth, MissesWrite, IsNoUsage}
 
 or_left : (a b : Bool) → (a || b) ≡ false → a ≡ false

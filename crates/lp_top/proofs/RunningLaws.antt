@@ -1,15 +1,22 @@
 -- A run and the saying of its line, joined.
-use Rattle.std.proofs.Common.{◌≡◌, ℕ, suc, ◌+◌, ◌≤◌, ◌<◌, Bool, true, false, List, [], ◌∷◌, ◌++◌, length, take, Option, Some, None, ◌⊎◌, inl, inr, refl, sym, ◌∙◌, ap, subst, arith, add-one, zero-add}
-use Rattle.std.specs.Option.{option_map, IfSome}
+use Rattle.std.proofs.Common.{◌≡◌, ℕ, suc, ◌+◌, ◌≤◌, ◌<◌, Bool, true, false, List, [], length, take, Option, Some, None, inl, inr, refl, sym, ◌∙◌, ap, subst, arith}
+use Rattle.std.specs.Option.{option_map}
 use Rattle.std.proofs.Math.Seq.{take-length}
-use Rattle.std.specs.Prelude.{codes, Result, Ok, Err, cond, unwrap_or, bytes_eq, nat_lt, ◌||◌}
+use Rattle.std.specs.Prelude.{Result, Ok, Err, cond, unwrap_or, bytes_eq, nat_lt, ◌||◌}
 use Rattle.std.specs.FinMap.{get, insert, get-insert}
 use Rattle.std.specs.Cmp.Lexicographic.{nat_list_cmp_total, texts_ties}
 use Rattle.std.proofs.lemmas.Bool.{both_ways}
 use Rattle.std.proofs.lemmas.Slice.Eq.{bytes_eq-Decides}
 use Rattle.lp_text.specs.declared.shelf.ShelfFault.{ShelfFault}
-use Rattle.lp_text.specs.Shelf.{Files, Faults, LAST, count_up, Rises, content, with_file, with_said, SayHolds}
+use Rattle.lp_text.specs.Shelf.{Files, Faults, LAST, count_up, Rises, content, with_said, SayHolds}
+use Rattle.lp_model.specs.declared.cell.Cell.{Cell}
+use Rattle.lp_model.specs.declared.netlist.Module.{Module}
+use Rattle.lp_model.specs.declared.intent.Intent.{Intent}
+use Rattle.lp_model.specs.Liberty.{IsLibrary}
+use Rattle.lp_model.specs.Verilog.{Reads}
+use Rattle.lp_model.specs.Upf.{IsIntent}
 use Rattle.lp_model.specs.Names.{Name}
+use Rattle.lp_top.proofs.FaultLaws.{one_fault, no_fault}
 use Rattle.lp_meaning.specs.Faults.{FirstFault}
 use Rattle.lp_meaning.specs.Promise.{HeadlineHolds}
 use Rattle.lp_top.specs.declared.outcome.Outcome.{Outcome}
@@ -17,7 +24,7 @@ use Rattle.lp_top.specs.declared.outcome.Outcome.TheVariants.{Done, Refused, Too
 use Rattle.lp_top.specs.Reading.{count_more}
 use Rattle.lp_top.specs.Words.{CommandFiles, IsCommand, clashes, command_of, input_files, inputs_in}
 use Rattle.lp_top.proofs.WordsLaws.{command-again}
-use Rattle.lp_top.specs.Ran.{ByFiles, ByCause, ByCounts, ByMissed, OnlySay, IsKept, SaysCounts, SaysCalls, IsSteady, IsDone, Completes, ByWords, Stores, HoldsTold, HoldsHeadline, MissedInput, MissedOutput}
+use Rattle.lp_top.specs.Ran.{ByFiles, ByCause, ByCounts, ByMissed, OnlySay, IsKept, SaysCounts, SaysCalls, IsSteady, IsDone, Completes, Refuses, IsRefusal, NoFileFault, Texts, ByWords, Stores, HoldsTold, HoldsHeadline}
 use Rattle.lp_top.specs.Inserting.{IsNoUsage}
 
 -- the counts of the whole run
@@ -182,3 +189,25 @@ headline-files c old new NoMemory h f = tt
 pub completes-kept : (c : CommandFiles) (old new : Option Files) (before after : Faults) (o r : Outcome)
     → ByFiles c old new r → ByCounts before after r → IsNoUsage o → IsKept o r → Completes c old before after r
 completes-kept c old new before after o r f k n same = completes c old new before after r f k (kept IsNoUsage o r same n tt)
+
+-- inputs with a first fault are refused by it
+module _ (one_library : (text : List ℕ) (a b : List Cell) → IsLibrary text a → IsLibrary text b → a ≡ b)
+    (one_netlist : (text : List ℕ) (a b : Module) → Reads text a → Reads text b → a ≡ b)
+    (one_intent : (text : List ℕ) (a b : Intent) → IsIntent text a → IsIntent text b → a ≡ b) where
+  written_fault : (c : CommandFiles) (files : Files) (texts : Texts (Some files) c) (line : List ℕ) → FirstFault (inputs_in files c) line → ⊥
+  written_fault c files texts line x = no_fault (inputs_in files c) one_library one_netlist one_intent texts.written.design line texts.written.accepts x
+
+  refuses-told : (c : CommandFiles) (files : Files) (new : Option Files) (before after : Faults) (r : Outcome)
+      → ByFiles c (Some files) new r → ByCounts before after r → IsNoUsage r → NoFileFault before after → (line : List ℕ) → FirstFault (inputs_in files c) line → IsRefusal line r
+  refuses-told c files new before after Done f k n s line x = written_fault c files f.texts line x
+  refuses-told c files new before after (Refused l) f k n s line x = one_fault (inputs_in files c) one_library one_netlist one_intent l line f.1 x
+  refuses-told c files new before after (TooLong m) f k n s line x = no_rise before.long s.long_low (subst (Rises before.long) s.long k.long)
+  refuses-told c files new before after (Usage u) f k n s line x = n
+  refuses-told c files new before after (ReadFault m) f k n s line x = no_rise before.read s.read_low (subst (Rises before.read) s.read k.read)
+  refuses-told c files new before after (WriteFault m) f k n s line x = no_rise before.write s.write_low (subst (Rises before.write) s.write k.write)
+  refuses-told c files new before after NoMemory f k n s line x = tt
+
+  pub refuses : (c : CommandFiles) (old new : Option Files) (before after : Faults) (o r : Outcome)
+      → ByFiles c old new r → ByCounts before after r → IsNoUsage o → IsKept o r → Refuses c old before after r
+  refuses c None new before after o r f k n same = tt
+  refuses c (Some files) new before after o r f k n same = λ s line x. refuses-told c files new before after r f k (kept IsNoUsage o r same n tt) s line x

@@ -1,5 +1,5 @@
 -- The steps of an insertion between its words and its line.
-use Rattle.std.specs.Prelude.{◌≡◌, ℕ, ◌+◌, ◌⊎◌, List, [], ◌∷◌, Option, Some, None}
+use Rattle.std.specs.Prelude.{◌≡◌, ℕ, ◌⊎◌, List, [], ◌∷◌, Option, Some}
 use Rattle.std.specs.Option.{option_map}
 use Rattle.lp_text.specs.Shelf.{Files, with_file}
 use Rattle.lp_text.specs.declared.shelf.ShelfFault.{ShelfFault}
@@ -8,7 +8,7 @@ use Rattle.lp_model.specs.Names.{Name}
 use Rattle.lp_meaning.specs.Faults.{Inputs}
 use Rattle.lp_top.specs.declared.reading.ReadStop.{ReadStop}
 use Rattle.lp_top.specs.declared.outcome.Outcome.{Outcome}
-use Rattle.lp_top.specs.declared.outcome.Outcome.TheVariants.{Done, Refused, TooLong, Usage, ReadFault, WriteFault, NoMemory}
+use Rattle.lp_top.specs.declared.outcome.Outcome.TheVariants.{Done, TooLong, Usage, ReadFault, WriteFault, NoMemory}
 use Rattle.lp_top.specs.Design.{inputs_of}
 use Rattle.lp_top.specs.Reading.{count_more}
 use Rattle.lp_top.specs.Words.{CommandFiles}

@@ -1,6 +1,5 @@
 -- Outcomes: their status, their lines, and when each comes.
 use Rattle.std.specs.Prelude.{ℕ, List, ◌++◌, codes, decimal}
-use Rattle.lp_top.specs.declared.outcome.UsageFault.{UsageFault}
 use Rattle.lp_top.specs.declared.outcome.UsageFault.TheVariants.{Form, Files}
 use Rattle.lp_top.specs.declared.outcome.Outcome.{Outcome}
 use Rattle.lp_top.specs.declared.outcome.Outcome.TheVariants.{Done, Refused, TooLong, Usage, ReadFault, WriteFault, NoMemory}

@@ -1,11 +1,10 @@
 -- When each outcome of a run comes, and what stands after it (own rule).
-use Rattle.std.specs.Prelude.{◌≡◌, ℕ, ◌+◌, ◌≤◌, ◌<◌, ◌⊎◌, Bool, true, false, List, [], ◌∷◌, ◌++◌, length, map, take, codes, IsTrue, Option, Some, None, nat_le, slice_index_or, if◌then◌else◌}
+use Rattle.std.specs.Prelude.{◌≡◌, ℕ, ◌+◌, ◌≤◌, ◌<◌, ◌⊎◌, false, List, [], length, take, IsTrue, Option, Some, None, nat_le, slice_index_or, if◌then◌else◌}
 use Rattle.std.specs.Option.{option_map, IfSome}
-use Rattle.lp_text.specs.Shelf.{Files, Faults, LAST, count_up, Rises, content, with_file, with_said, ReadRises, WriteRises, LongRises, SayRises}
+use Rattle.lp_text.specs.Shelf.{Files, Faults, LAST, count_up, Rises, content, with_file, with_said, ReadRises, WriteRises, LongRises}
 use Rattle.lp_model.specs.Names.{Name}
 use Rattle.lp_meaning.specs.Faults.{FirstFault}
 use Rattle.lp_meaning.specs.Promise.{IsWritten, HeadlineHolds}
-use Rattle.lp_top.specs.declared.outcome.UsageFault.{UsageFault}
 use Rattle.lp_top.specs.declared.outcome.UsageFault.TheVariants.{Form, Files as Clash}
 use Rattle.lp_top.specs.declared.outcome.Outcome.{Outcome}
 use Rattle.lp_top.specs.declared.outcome.Outcome.TheVariants.{Done, Refused, TooLong, Usage, ReadFault, WriteFault, NoMemory}
@@ -188,3 +187,21 @@ wants_memory = NoMemory
 -- a part of the line that says that memory is wanted
 abbrev pub SaysPart : Option (List ℕ) → Option (List ℕ) → Type 0
 SaysPart old new = (n : ℕ) × (new ≡ with_said old (take n (line_of NoMemory)))
+
+-- where no file call failed and no file was too long, inputs with this first fault are refused by it
+abbrev pub IsRefusal : List ℕ → Outcome → Type 0
+IsRefusal line (Refused l) = l ≡ line
+IsRefusal line NoMemory = Unit {0}
+IsRefusal line _ = ⊥
+
+pub record NoFileFault (old new : Faults) : Type 0 where
+  pub read : new.read ≡ old.read
+  pub write : new.write ≡ old.write
+  pub long : new.long ≡ old.long
+  pub read_low : old.read < LAST
+  pub write_low : old.write < LAST
+  pub long_low : old.long < LAST
+
+abbrev pub Refuses : CommandFiles → Option Files → Faults → Faults → Outcome → Type 0
+Refuses c None old new outcome = Unit {0}
+Refuses c (Some files) old new outcome = NoFileFault old new → (line : List ℕ) → FirstFault (inputs_in files c) line → IsRefusal line outcome

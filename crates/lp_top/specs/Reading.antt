@@ -1,5 +1,5 @@
 -- Reading several files, one after another, up to the first that is refused.
-use Rattle.std.specs.Prelude.{◌≡◌, ℕ, ◌+◌, ◌≤◌, ◌<◌, zero, suc, List, [], ◌∷◌, length, map, take, Option, Some, None, Result, Ok, Err, slice_index_or}
+use Rattle.std.specs.Prelude.{◌≡◌, ℕ, ◌+◌, ◌≤◌, ◌<◌, zero, suc, List, [], length, map, take, Option, Some, Result, Ok, Err, slice_index_or}
 use Rattle.std.specs.Option.{option_map, IfSome}
 use Rattle.std.specs.List.{AllByRecursion}
 use Rattle.lp_text.specs.Shelf.{Files, Faults, count_up, content, ReadRises, LongRises}

@@ -1,6 +1,5 @@
 -- Which words are a command, and which of its files clash (own rule).
-use Rattle.std.specs.Prelude.{◌≡◌, ℕ, Bool, ◌||◌, nat_lt, List, [], ◌∷◌, ◌++◌, length, codes, IsTrue, bytes_eq, map, Option, Some, None, if◌then◌else◌}
-use Rattle.std.specs.List.{list_any}
+use Rattle.std.specs.Prelude.{◌≡◌, Bool, ◌||◌, nat_lt, List, [], ◌∷◌, length, codes, IsTrue, bytes_eq, map, Option, Some, None, if◌then◌else◌}
 use Rattle.lp_text.specs.Shelf.{Files, content}
 use Rattle.lp_token.specs.Tokens.{is_filled}
 use Rattle.lp_model.specs.Names.{Name, has_name}

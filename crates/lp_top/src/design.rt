@@ -1,18 +1,22 @@
-ghost use Rattle.std.specs.Prelude.{◌≡◌, ◌≤◌, ◌^◌, length, map, IfOk, IsTrue};
+ghost use Rattle.std.specs.Prelude.{◌≡◌, ℕ, ◌≤◌, ◌^◌, List, length, map, IfOk, IsTrue};
 ghost use Rattle.lp_model.specs.Names.{is_distinct};
 ghost use Rattle.lp_model.specs.Layout.{layout};
 ghost use Rattle.lp_meaning.specs.Written.{powered, report_text};
 ghost use Rattle.lp_meaning.specs.Promise.{IsWritten, HeadlineHolds};
-ghost use Rattle.lp_top.specs.Design.{inputs_of, RefusedBy};
+ghost use Rattle.lp_meaning.specs.Faults.{FirstFault, Accepts};
+ghost use Rattle.lp_meaning.specs.Intent.{Design};
+ghost use Rattle.lp_top.specs.Design.{inputs_of, RefusedBy, GivesFault, GivesTexts};
 
 use crate::accepting::{Accepted, accept};
 use lp_cells::CellIndex;
+use lp_liberty::one_library;
 use lp_meaning::{
     accepted_cells_differ, accepted_is_sound, headline as theorem, supplied, well_formed,
 };
 use lp_model::{Cell, Intent, Module};
 use lp_pg::connect_all;
 use lp_text::{Bytes, NoMemory};
+use lp_upf::one_intent;
 use lp_verilog::one_netlist;
 use lp_vwrite::{reads_back, write_netlist};
 use std::alloc::Global;
@@ -136,6 +140,9 @@ pub fn insert_design(
     ensures headline { IfOk result (λ w. HeadlineHolds (inputs_of libs.now netlist.now upf.now) margin w.netlist) }
     // A fault is the first one of the inputs.
     ensures refused { RefusedBy (inputs_of libs.now netlist.now upf.now) result }
+    // Inputs with a first fault are refused by it, and others are accepted, memory aside.
+    ensures exact { (line : List ℕ) → FirstFault (inputs_of libs.now netlist.now upf.now) line → GivesFault line result }
+    ensures complete { (design : Design) → Accepts (inputs_of libs.now netlist.now upf.now) design → GivesTexts result }
 {
     accepted_is_sound();
     accepted_cells_differ();
@@ -143,7 +150,9 @@ pub fn insert_design(
     supplied();
     well_formed();
     reads_back();
+    one_library();
     one_netlist();
+    one_intent();
     match accept(alloc, libs, netlist, upf) {
         Ok(accepted) => match write(alloc, accepted) {
             Ok(written) => Ok(written),

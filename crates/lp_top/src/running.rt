@@ -1,13 +1,16 @@
 ghost use Rattle.std.specs.Prelude.{◌≡◌, ◌++◌, codes, decimal, IfOk, OnOk, false};
 ghost use Rattle.lp_text.specs.Shelf.{Rises};
 ghost use Rattle.lp_top.specs.Outcomes.{line_of};
-ghost use Rattle.lp_top.specs.Ran.{BySaid, IsKept, OnlySay, SaysCounts, SaysCalls, SaysPart, wants_memory, ByWords, ByFiles, ByCounts, ByMissed, KeepsOnUsage, Completes, HoldsHeadline};
+ghost use Rattle.lp_top.specs.Ran.{BySaid, IsKept, OnlySay, SaysCounts, SaysCalls, SaysPart, wants_memory, ByWords, ByFiles, ByCounts, ByMissed, KeepsOnUsage, Completes, Refuses, HoldsHeadline};
 ghost use Rattle.lp_top.specs.Words.{CommandFiles, IsCommand, clashes};
 
 use crate::inserting::attempt;
 use crate::outcome::{Outcome, UsageFault};
 use crate::parsing::{command, has_clash};
+use lp_liberty::one_library;
 use lp_text::{NoMemory, Shelf, ShelfFault, Word};
+use lp_upf::one_intent;
+use lp_verilog::one_netlist;
 use std::alloc::Global;
 
 /// The line of an outcome, with its line feed.
@@ -94,12 +97,17 @@ pub fn run<S: Shelf>(alloc: Global, words: &[Word], shelf: &mut S) -> Outcome
     // What was said.
     ensures said { BySaid (S.said shelf.old) (S.said shelf.new) (S.faults shelf.old) (S.faults shelf.new) result }
 
+    // Where no file call failed, inputs with a first fault are refused by it, memory aside.
+    ensures exact { (c : CommandFiles) → IsCommand words.now c → clashes c ≡ false → Refuses c (S.held shelf.old) (S.faults shelf.old) (S.faults shelf.new) result }
     // Without a fault of the files or of the inputs the run is done, or wants memory.
     ensures complete { (c : CommandFiles) → IsCommand words.now c → clashes c ≡ false → Completes c (S.held shelf.old) (S.faults shelf.old) (S.faults shelf.new) result }
 
     // The theorem, on the bytes that are held under the name of the netlist.
     ensures headline { (c : CommandFiles) → IsCommand words.now c → clashes c ≡ false → HoldsHeadline c (S.held shelf.old) (S.held shelf.new) result }
 {
+    one_library();
+    one_netlist();
+    one_intent();
     let command = match command(words) {
         Some(command) => command,
         None => return tell(alloc, shelf, Outcome::Usage(UsageFault::Form)),

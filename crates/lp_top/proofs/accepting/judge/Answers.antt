@@ -1,4 +1,3 @@
-use Rattle.lp_top.specs.Accepting.{OrFault, Judged, Unjudged}
 use Rattle.lp_top.proofs.AcceptingLaws.{loop-unjudged}
 use Rattle.lp_top.proofs.accepting.judge.Goals as goal
 

@@ -1,4 +1,4 @@
-use Rattle.std.proofs.Common.{◌≡◌, ◌∷◌, [], ap, ◌∙◌, sym}
+use Rattle.std.proofs.Common.{◌∷◌, [], ap, ◌∙◌, sym}
 use Rattle.lp_top.proofs.AcceptingLaws.{alone-denotes, one-item}
 use Rattle.lp_top.proofs.accepting.read_cells.Goals as goal
 

@@ -1,4 +1,6 @@
 use Rattle.lp_top.proofs.DesignLaws.{promise, promise-headline, accepted-differ}
+use Rattle.lp_top.proofs.FaultLaws.{no_fault, gives-fault, gives-texts}
+use Rattle.lp_top.specs.Accepting.{design_of}
 use Rattle.lp_top.specs.Design.{inputs_of}
 use Rattle.lp_top.proofs.design.insert_design.Goals as goal
 
@@ -16,3 +18,16 @@ returns-in-Ok-write-clause-headline c =
     promise-headline (inputs_of c.args.libs.now c.args.netlist.now c.args.upf.now) c.in-Ok.accepted c.args.margin (c.in-Ok.ensures c.args.margin)
     c.accepted_is_sound.ensures c.well_formed-2.ensures c.reads_back.ensures c.one_netlist.ensures c.supplied.ensures
     c.in-Ok-write.written.netlist c.in-Ok-write.ensures.netlist c.headline.ensures
+
+pub returns-in-Ok-write-clause-exact : goal.returns-in-Ok-write-clause-exact
+returns-in-Ok-write-clause-exact c line fault =
+    absurd (no_fault (inputs_of c.args.libs.now c.args.netlist.now c.args.upf.now) c.one_library.ensures c.one_netlist.ensures c.one_intent.ensures
+    (design_of c.in-Ok.accepted 0) line (c.in-Ok.ensures 0).accepts fault)
+
+pub returns-in-Err-clause-exact : goal.returns-in-Err-clause-exact
+returns-in-Err-clause-exact c =
+    gives-fault (inputs_of c.args.libs.now c.args.netlist.now c.args.upf.now) c.one_library.ensures c.one_netlist.ensures c.one_intent.ensures c.in-Err.refusal c.in-Err.ensures
+
+pub returns-in-Err-clause-complete : goal.returns-in-Err-clause-complete
+returns-in-Err-clause-complete c =
+    gives-texts (inputs_of c.args.libs.now c.args.netlist.now c.args.upf.now) c.one_library.ensures c.one_netlist.ensures c.one_intent.ensures c.in-Err.refusal c.in-Err.ensures

@@ -1,10 +1,8 @@
-use Rattle.std.proofs.Common.{rules, ◌≡◌, ◌≤◌, length, false, ℕ, ◌+◌, ◌*◌, ◌<◌, Bool, true, List, [], ◌∷◌, ◌++◌, map, subst, sym, ◌∙◌, ap, arith, Bor}
-use Rattle.std.specs.Option.{option_map, IfSome}
-use Rattle.lp_model.specs.Names.{Name}
-use Rattle.lp_top.specs.Words.{files_of, clashes, input_files}
-use Rattle.lp_top.specs.Ran.{ByFiles, ByCause, ByMissed}
+use Rattle.std.proofs.Common.{◌≡◌, ◌≤◌, length, map, subst, sym, ◌∙◌, ap, arith}
+use Rattle.std.specs.Option.{option_map}
+use Rattle.lp_top.specs.Words.{files_of, input_files}
 use Rattle.lp_top.specs.Reading.{HoldsAll, count_more}
-use Rattle.lp_top.specs.Inserting.{inputs_read, end_of, StoresBoth, MissesWrite, IsNoUsage}
+use Rattle.lp_top.specs.Inserting.{StoresBoth}
 use Rattle.lp_top.proofs.InsertingLaws.{few-inputs, length-names, written-held, headline-held, fault-held, stores-files, stores-no_usage, stores-missed, stores-counts}
 use Rattle.lp_top.proofs.inserting.attempt.Goals as goal
 

@@ -1,8 +1,7 @@
 use Rattle.std.proofs.Common.{rules, ◌≡◌, ℕ, ◌≤◌, ◌+◌, ◌∷◌, [], ◌++◌, List, length, sym, ◌∙◌, ap, subst, arith, length-append, Bor, get_or, take, map}
-use Rattle.std.specs.Prelude.{is_ok}
-use Rattle.lp_text.specs.Shelf.{Files, content, count_up}
+use Rattle.lp_text.specs.Shelf.{content, count_up}
 use Rattle.std.specs.Option.{option_map, IfSome}
-use Rattle.lp_top.specs.Reading.{HoldsAll, count_more}
+use Rattle.lp_top.specs.Reading.{HoldsAll}
 use Rattle.lp_top.proofs.ReadingLaws.{holds-none, holds-more, names-more, on_ok, count_more-none, count_more-step}
 use Rattle.lp_top.proofs.reading.read_files.Goals as goal
 

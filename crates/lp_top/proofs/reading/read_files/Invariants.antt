@@ -1,4 +1,4 @@
-use Rattle.std.proofs.Common.{◌≡◌, length, map, take, ℕ}
+use Rattle.std.proofs.Common.{◌≡◌, length, map, take}
 use Rattle.std.specs.Option.{option_map}
 use Rattle.lp_top.specs.Reading.{HoldsAll, count_more}
 use Rattle.lp_top.proofs.reading.read_files.Given as goal

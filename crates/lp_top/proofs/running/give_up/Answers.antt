@@ -1,6 +1,4 @@
-use Rattle.std.proofs.Common.{◌∷◌, []}
 use Rattle.std.specs.Prelude.{codes}
-use Rattle.lp_top.specs.Ran.{SaysPart}
 use Rattle.lp_top.proofs.RunningLaws.{says-part}
 use Rattle.lp_top.proofs.running.give_up.Goals as goal
 

@@ -1,14 +1,11 @@
-use Rattle.std.proofs.Common.{◌≡◌, true, false, Some, None, sym, ◌∙◌, ap, subst}
+use Rattle.std.proofs.Common.{◌≡◌, true, sym, ◌∙◌, subst}
 use Rattle.std.proofs.lemmas.Bool.{both_ways}
-use Rattle.std.specs.Option.{option_map}
-use Rattle.lp_text.specs.Shelf.{Files}
-use Rattle.lp_top.specs.declared.outcome.Outcome.{Outcome}
 use Rattle.lp_top.specs.declared.outcome.Outcome.TheVariants as outcomes
 use Rattle.lp_top.specs.declared.outcome.UsageFault.TheVariants as usages
-use Rattle.lp_top.specs.Words.{CommandFiles, IsCommand, clashes, files_of, command_of}
-use Rattle.lp_top.specs.Ran.{ByWords, ByFiles, ByCounts, ByMissed, Completes, HoldsHeadline}
+use Rattle.lp_top.specs.Words.{IsCommand, clashes, files_of}
+use Rattle.lp_top.specs.Ran.{ByWords, ByFiles, ByMissed}
 use Rattle.lp_top.proofs.WordsLaws.{command-found}
-use Rattle.lp_top.proofs.RunningLaws.{kept, words-good, same_command, no_command, counts-join, files-join, missed-join, completes, completes-kept, headline-files}
+use Rattle.lp_top.proofs.RunningLaws.{kept, words-good, same_command, no_command, counts-join, files-join, missed-join, completes-kept, refuses, headline-files}
 use Rattle.lp_top.proofs.running.run.Goals as goal
 
 pub returns-in-None-clause-words : goal.returns-in-None-clause-words
@@ -64,3 +61,16 @@ returns-clause-complete g c b is apart =
 pub returns-clause-headline : goal.returns-clause-headline
 returns-clause-headline g c b is apart =
     headline-files b (g.S.Shelf.held c.args.shelf.now) (g.S.Shelf.held c.tell-2.new.shelf) c.tell-2.result apart (returns-clause-files g c b is apart)
+
+pub returns-in-None-clause-exact : goal.returns-in-None-clause-exact
+returns-in-None-clause-exact g c b is apart = absurd (no_command c.args.words.now b (sym c.in-None.ensures) is)
+
+pub returns-then-has_clash-clause-exact : goal.returns-then-has_clash-clause-exact
+returns-then-has_clash-clause-exact g c b is apart =
+    let same : files_of c.in-Some.command ≡ b = same_command c.args.words.now (files_of c.in-Some.command) b (sym c.in-Some.ensures) is in
+    absurd (both_ways (clashes b) apart (subst (λ x. clashes x ≡ true) same (sym c.has_clash.ensures ∙ c.if-has_clash.true)))
+
+pub returns-clause-exact : goal.returns-clause-exact
+returns-clause-exact g c b is apart =
+    refuses c.one_library.ensures c.one_netlist.ensures c.one_intent.ensures b (g.S.Shelf.held c.args.shelf.now) (g.S.Shelf.held c.tell-2.new.shelf) (g.S.Shelf.faults c.args.shelf.now) (g.S.Shelf.faults c.tell-2.new.shelf) c.attempt-outcome.result c.tell-2.result
+    (returns-clause-files g c b is apart) (returns-clause-counts g c) c.attempt-outcome.ensures.no_usage c.tell-2.ensures.kept
