@@ -13,3 +13,6 @@ mod words;
 pub use design::{Fault, Refusal, Written, insert_design};
 pub use outcome::{Outcome, UsageFault, status};
 pub use running::run;
+
+#[cfg(test)]
+mod tests;
