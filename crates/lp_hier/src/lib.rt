@@ -1,13 +1,12 @@
-// A library with one function.
+//! Whether a netlist fits the cells of a library.
 #![tactic(auto)]
 
-ghost use Rattle.std.specs.Prelude.{◌≡◌};
-ghost use Rattle.lp_hier.specs.Echo.{echo_of};
+mod fit;
+mod joined;
+mod laws;
+mod nets;
+mod targets;
 
-// The `ensures` clause is the contract: what `echo` returns is `echo_of` of its argument, a definition
-// in `specs/Echo.antt`, which a caller's clause can cite too.
-pub fn echo(x: usize) -> usize
-    ensures { result ≡ echo_of x }
-{
-    x
-}
+pub use fit::is_fit;
+pub use laws::source_is_small;
+pub use targets::unknown_target;
