@@ -5,5 +5,4 @@ ghost use Rattle.lp_model.specs.Verilog.{IsSource};
 /// A source has at most as many ports and wires as its text has bytes.
 pub fn source_is_small()
     ensures { (text : List ℕ) (m : Module) → IsSource text m → length m.ports + length m.wires ≤ length text }
-{
-}
+{}

@@ -10,11 +10,7 @@ use sqlite_items::Items;
 use std::alloc::Global;
 
 /// Adds the two supply ports behind the module's own.
-fn add_supply_ports(
-    alloc: Global,
-    intent: &Intent,
-    ports: &mut Items<Port>,
-) -> Result<(), NoMemory>
+fn add_supply_ports(alloc: Global, intent: &Intent, ports: &mut Items<Port>) -> Result<(), NoMemory>
     ensures { OnOk result (ports.new ≡ ports.old ++ map supply_input (origins intent.now)) }
 {
     ports.push(supply_input(alloc, &intent.power)?)?;
