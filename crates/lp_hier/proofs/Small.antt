@@ -1,14 +1,12 @@
 -- A text has no fewer bytes than tokens, and a module's tokens have the names of its ports and wires.
-use Rattle.std.proofs.Common.{◌≡◌, ℕ, ◌+◌, ◌≤◌, Bool, true, false, List, [], ◌∷◌, ◌++◌, map, length, ap, ◌∙◌, cond, length-append, arith}
+use Rattle.std.proofs.Common.{◌≡◌, ℕ, ◌+◌, ◌≤◌, Bool, true, false, List, [], ◌∷◌, ◌++◌, length, ap, ◌∙◌, cond, length-append, arith}
 use Rattle.std.specs.Prelude.{flat_map, codes}
 use Rattle.std.proofs.lemmas.List.{length-map}
 use Rattle.lp_token.specs.declared.token.Language.{Language}
 use Rattle.lp_token.specs.declared.token.Language.TheVariants.{Verilog}
 use Rattle.lp_token.specs.Tokens.{Token, Word, Mark, SpellsTo}
 use Rattle.lp_token.specs.Laws.{begins_fewer}
-use Rattle.lp_model.specs.declared.netlist.Port.{Port}
 use Rattle.lp_model.specs.declared.netlist.Module.{Module}
-use Rattle.lp_model.specs.declared.netlist.Instance.{Instance}
 use Rattle.lp_model.specs.Names.{Name}
 use Rattle.lp_model.specs.Verilog.{Wire, Declaration, ModuleTree, name_list, declaration_tokens, instance_tokens, module_tokens, is_kind, declared, wires_of, inputs_of, port_of, IsSource}
 

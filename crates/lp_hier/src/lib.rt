@@ -10,3 +10,6 @@ mod targets;
 pub use fit::is_fit;
 pub use laws::source_is_small;
 pub use targets::unknown_target;
+
+#[cfg(test)]
+mod tests;

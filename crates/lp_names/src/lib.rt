@@ -5,3 +5,6 @@ mod identifier;
 mod reserved;
 
 pub use identifier::is_identifier;
+
+#[cfg(test)]
+mod tests;

@@ -5,3 +5,6 @@ mod joins;
 mod netlist;
 
 pub use netlist::connect_all;
+
+#[cfg(test)]
+mod tests;
