@@ -67,24 +67,47 @@ fn words(alloc: Global, texts: &[&str]) -> Result<Vec<Word>, Fail> {
     Ok(words)
 }
 
-fn shelf(alloc: Global, fail: &[u32], texts: [&str; 3]) -> Result<MemShelf, Fail> {
+/// What a run left on a shelf in memory.
+#[derive(Drop)]
+struct Ran {
+    status: u8,
+    calls: u64,
+    said: Vec<u8>,
+    netlist: Vec<u8>,
+    report: Vec<u8>,
+}
+
+fn held(alloc: Global, shelf: &MemShelf, name: &str) -> Result<Vec<u8>, Fail> {
+    match shelf.contents(name) {
+        Some(bytes) => Ok(Vec::from_slice(alloc, bytes)?),
+        None => Ok(Vec::new(alloc)),
+    }
+}
+
+fn run_on(alloc: Global, fail: &[u32], texts: [&str; 3], command: &[&str]) -> Result<Ran, Fail> {
     let mut shelf = MemShelf::new(alloc, fail)?;
     shelf.add_file("n.v", texts[0].as_bytes())?;
     shelf.add_file("u.upf", texts[1].as_bytes())?;
     shelf.add_file("l.lib", texts[2].as_bytes())?;
-    Ok(shelf)
+    let words = words(alloc, command)?;
+    let outcome = run(alloc, &words, &mut shelf);
+    Ok(Ran {
+        status: status(&outcome),
+        calls: shelf.calls(),
+        said: Vec::from_slice(alloc, shelf.said_bytes())?,
+        netlist: held(alloc, &shelf, "o.v")?,
+        report: held(alloc, &shelf, "r.txt")?,
+    })
 }
 
 #[test]
 fn inserts_the_supplies_of_a_block(rt: HostRuntime) -> Result<(), Fail> {
-    let mut shelf = shelf(rt.alloc(), &[], [NETLIST, INTENT, LIBRARY])?;
-    let words = words(rt.alloc(), &WORDS)?;
-    let outcome = run(rt.alloc(), &words, &mut shelf);
-    assert_eq!(rt; status(&outcome), 0);
-    assert_eq!(rt; shelf.contents("o.v"), Some(POWERED.as_bytes()));
-    assert_eq!(rt; shelf.contents("r.txt"), Some(REPORT.as_bytes()));
-    assert_eq!(rt; shelf.said_bytes(), b"".as_slice());
-    assert_eq!(rt; shelf.calls(), 5);
+    let ran = run_on(rt.alloc(), &[], [NETLIST, INTENT, LIBRARY], &WORDS)?;
+    assert_eq!(rt; ran.status, 0);
+    assert_eq!(rt; ran.netlist.as_slice(), POWERED.as_bytes());
+    assert_eq!(rt; ran.report.as_slice(), REPORT.as_bytes());
+    assert_eq!(rt; ran.said.as_slice(), b"".as_slice());
+    assert_eq!(rt; ran.calls, 5);
     Ok(())
 }
 
@@ -133,13 +156,11 @@ fn refuses_by_the_first_fault(rt: HostRuntime) -> Result<(), Fail> {
         let netlist = format!(in rt.alloc(); "{module}{items}endmodule\n")?;
         let upf = format!(in rt.alloc(); "{intent}{INTENT}")?;
         let library = format!(in rt.alloc(); "{comment}{LIBRARY}")?;
-        let mut shelf = shelf(rt.alloc(), &[], [&netlist, &upf, &library])?;
-        let words = words(rt.alloc(), &WORDS)?;
-        let outcome = run(rt.alloc(), &words, &mut shelf);
+        let ran = run_on(rt.alloc(), &[], [&netlist, &upf, &library], &WORDS)?;
         let said = format!(in rt.alloc(); "lpinsert: {line}\n")?;
-        assert_eq!(rt; status(&outcome), 1, "at {line}");
-        assert_eq!(rt; shelf.said_bytes(), said.as_bytes(), "at {line}");
-        assert_eq!(rt; shelf.contents("o.v"), None, "at {line}");
+        assert_eq!(rt; ran.status, 1, "at {line}");
+        assert_eq!(rt; ran.said.as_slice(), said.as_bytes(), "at {line}");
+        assert!(rt; ran.netlist.is_empty(), "at {line}");
     }
     Ok(())
 }
@@ -154,13 +175,11 @@ fn names_the_file_that_failed(rt: HostRuntime) -> Result<(), Fail> {
         (5, "lpinsert: cannot write file 4\n"),
     ];
     for (call, line) in cases {
-        let mut shelf = shelf(rt.alloc(), &[call], [NETLIST, INTENT, LIBRARY])?;
-        let words = words(rt.alloc(), &WORDS)?;
-        let outcome = run(rt.alloc(), &words, &mut shelf);
-        assert_eq!(rt; status(&outcome), 3, "at call {call}");
-        assert_eq!(rt; shelf.said_bytes(), line.as_bytes(), "at call {call}");
-        let written = shelf.contents("o.v") == Some(POWERED.as_bytes());
-        assert_eq!(rt; written, call == 5, "at call {call}");
+        let ran = run_on(rt.alloc(), &[call], [NETLIST, INTENT, LIBRARY], &WORDS)?;
+        assert_eq!(rt; ran.status, 3, "at call {call}");
+        assert_eq!(rt; ran.said.as_slice(), line.as_bytes(), "at call {call}");
+        let whole = ran.netlist.as_slice() == POWERED.as_bytes();
+        assert_eq!(rt; whole, call == 5, "at call {call}");
     }
     Ok(())
 }
@@ -208,11 +227,9 @@ fn reads_the_words_in_their_order(rt: HostRuntime) -> Result<(), Fail> {
         (twice.as_slice(), 1, "lpinsert: F99 NotYet 2\n"),
     ];
     for (texts, wanted, line) in cases {
-        let mut shelf = shelf(rt.alloc(), &[], [NETLIST, INTENT, LIBRARY])?;
-        let words = words(rt.alloc(), texts)?;
-        let outcome = run(rt.alloc(), &words, &mut shelf);
-        assert_eq!(rt; status(&outcome), wanted, "at {line}");
-        assert_eq!(rt; shelf.said_bytes(), line.as_bytes(), "at {line}");
+        let ran = run_on(rt.alloc(), &[], [NETLIST, INTENT, LIBRARY], texts)?;
+        assert_eq!(rt; ran.status, wanted, "at {line}");
+        assert_eq!(rt; ran.said.as_slice(), line.as_bytes(), "at {line}");
     }
     Ok(())
 }
