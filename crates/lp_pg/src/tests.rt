@@ -57,17 +57,26 @@ fn netlist(alloc: Global) -> Result<Module, NoMemory> {
     })
 }
 
-#[test]
-fn joins_supplies(rt: HostRuntime) -> Result<(), Fail> {
-    let alloc = rt.alloc();
+fn written(alloc: Global) -> Result<Module, NoMemory> {
     let cells = [buffer(alloc)?];
     let index = CellIndex::new(alloc, &cells)?;
-    let written = connect_all(alloc, &index, &intent(alloc)?, netlist(alloc)?)?;
-    let port = written.ports.get(1).ok_or("no port")?;
+    connect_all(alloc, &index, &intent(alloc)?, netlist(alloc)?)
+}
+
+#[test]
+fn adds_supply_ports(rt: HostRuntime) -> Result<(), Fail> {
+    let netlist = written(rt.alloc())?;
+    assert_eq!(rt; netlist.ports.len(), 3);
+    let port = netlist.ports.get(1).ok_or("no port")?;
     assert_eq!(rt; port.name.all(), b"lp_v_vdd".as_slice());
     assert_eq!(rt; port.direction, Direction::Input);
-    assert_eq!(rt; written.ports.len(), 3);
-    let first = written.instances.get(0).ok_or("no instance")?;
+    Ok(())
+}
+
+#[test]
+fn joins_supply_pins(rt: HostRuntime) -> Result<(), Fail> {
+    let netlist = written(rt.alloc())?;
+    let first = netlist.instances.get(0).ok_or("no instance")?;
     assert_eq!(rt; first.name.all(), b"first".as_slice());
     assert_eq!(rt; first.connections.len(), 3);
     let last = first.connections.get(2).ok_or("no connection")?;
@@ -78,11 +87,8 @@ fn joins_supplies(rt: HostRuntime) -> Result<(), Fail> {
 
 #[test]
 fn leaves_an_unknown_cell(rt: HostRuntime) -> Result<(), Fail> {
-    let alloc = rt.alloc();
-    let cells = [buffer(alloc)?];
-    let index = CellIndex::new(alloc, &cells)?;
-    let written = connect_all(alloc, &index, &intent(alloc)?, netlist(alloc)?)?;
-    let second = written.instances.get(1).ok_or("no instance")?;
+    let netlist = written(rt.alloc())?;
+    let second = netlist.instances.get(1).ok_or("no instance")?;
     assert_eq!(rt; second.name.all(), b"second".as_slice());
     assert_eq!(rt; second.connections.len(), 1);
     Ok(())
