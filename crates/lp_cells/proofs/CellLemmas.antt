@@ -4,9 +4,9 @@ use Rattle.std.specs.Prelude.{map, bytes_eq, slice_get}
 use Rattle.std.specs.Option.{option_map}
 use Rattle.std.proofs.lemmas.Bool.{cases_Bool, true≢false}
 use Rattle.std.proofs.lemmas.List.{take-append-drop, take_more, drop_more, map-append}
-use Rattle.lp_table.specs.Texts.{same_text, has_text, place_of, distinct, distinct-repeated, same_text_comm}
-use Rattle.lp_model.specs.declared.cell.Cell.{Cell}
-use Rattle.lp_model.specs.Names.{Name, is_distinct}
+use Rattle.lp_text.specs.Texts.{same_text, has_text, place_of, distinct, distinct-repeated, same_text_comm}
+use Rattle.lp_small.specs.declared.cell.Cell.{Cell}
+use Rattle.lp_small.specs.Names.{Name, is_distinct}
 use Rattle.lp_meaning.specs.Graph.{cell_named}
 use Rattle.lp_cells.specs.NameLaws.{is_distinct-text}
 

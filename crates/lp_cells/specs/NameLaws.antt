@@ -1,8 +1,8 @@
 -- Names as texts: the two ways to say that a name stands in a list, and that none stands twice.
 use Rattle.std.specs.Prelude.{◌≡◌, not, ◌&&◌, ◌||◌, List, [], ◌∷◌}
 use Rattle.std.proofs.Common.{refl}
-use Rattle.lp_table.specs.Texts.{has_text, distinct, same_text_comm}
-use Rattle.lp_model.specs.Names.{Name, has_name, is_distinct}
+use Rattle.lp_text.specs.Texts.{has_text, distinct, same_text_comm}
+use Rattle.lp_small.specs.Names.{Name, has_name, is_distinct}
 
 pub has_name-text : (n : Name) (names : List Name) → has_name n names ≡ has_text n names
 has_name-text n [] = refl

@@ -1,9 +1,9 @@
 ghost use Rattle.std.specs.Prelude.{◌≡◌, IsTrue, IfOk, map};
 ghost use Rattle.std.specs.Option.{option_copied};
-ghost use Rattle.lp_model.specs.Names.{is_distinct};
+ghost use Rattle.lp_small.specs.Names.{is_distinct};
 ghost use Rattle.lp_meaning.specs.Graph.{cell_named};
 
-use lp_model::Cell;
+use lp_small::Cell;
 use lp_table::Table;
 use lp_text::NoMemory;
 use sqlite_items::at;
@@ -19,7 +19,7 @@ pub struct CellIndex<'a> {
 
 impl<'a> Model for CellIndex<'a> {
     ghost use Rattle.std.specs.Prelude.{◌≡◌, List, map};
-    ghost use Rattle.lp_model.specs.declared.cell.Cell.{Cell};
+    ghost use Rattle.lp_small.specs.declared.cell.Cell.{Cell};
 
     ghost Value = { List Cell };
 

@@ -1,7 +1,7 @@
 ghost use Rattle.std.specs.Prelude.{◌≡◌, IfOk};
 
 use crate::CellIndex;
-use lp_model::Cell;
+use lp_small::Cell;
 use lp_text::{Bytes, NoMemory};
 use sqlite_items::Items;
 use std::alloc::Global;

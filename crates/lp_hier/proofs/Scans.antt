@@ -4,8 +4,8 @@ use Rattle.std.specs.Prelude.{map, bytes_eq}
 use Rattle.std.specs.List.{list_any}
 use Rattle.std.proofs.lemmas.Bool.{and_from, not_from_false, true≢false}
 use Rattle.std.proofs.lemmas.List.{take-append-drop, take_more, drop_more, map-append}
-use Rattle.lp_table.specs.Texts.{has_text, distinct, distinct-push, distinct-repeated}
-use Rattle.lp_model.specs.Names.{Name, has_name, is_distinct}
+use Rattle.lp_text.specs.Texts.{has_text, distinct, distinct-push, distinct-repeated}
+use Rattle.lp_small.specs.Names.{Name, has_name, is_distinct}
 use Rattle.lp_cells.specs.NameLaws.{has_name-text, is_distinct-text}
 
 -- a search for a record with the name

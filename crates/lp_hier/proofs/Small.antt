@@ -6,9 +6,9 @@ use Rattle.lp_token.specs.declared.token.Language.{Language}
 use Rattle.lp_token.specs.declared.token.Language.TheVariants.{Verilog}
 use Rattle.lp_token.specs.Tokens.{Token, Word, Mark, SpellsTo}
 use Rattle.lp_token.specs.Laws.{begins_fewer}
-use Rattle.lp_model.specs.declared.netlist.Module.{Module}
-use Rattle.lp_model.specs.Names.{Name}
-use Rattle.lp_model.specs.Verilog.{Wire, Declaration, ModuleTree, name_list, declaration_tokens, instance_tokens, module_tokens, is_kind, declared, wires_of, inputs_of, port_of, IsSource}
+use Rattle.lp_small.specs.declared.netlist.Module.{Module}
+use Rattle.lp_small.specs.Names.{Name}
+use Rattle.lp_small.specs.Verilog.{Wire, Declaration, ModuleTree, name_list, declaration_tokens, instance_tokens, module_tokens, is_kind, declared, wires_of, inputs_of, port_of, IsSource}
 
 tokens_fit : (l : Language) (ts : List Token) (text rest : List ℕ) → SpellsTo l ts text rest → length ts + length rest ≤ length text
 tokens_fit l [] text rest h = omega (arith, ap length h)

@@ -2,11 +2,11 @@
 use Rattle.std.specs.Prelude.{◌≡◌, Bool, true, false, ◌&&◌, nat_le, length, Option, Some, None}
 use Rattle.std.specs.List.{list_all}
 use Rattle.std.proofs.Common.{refl}
-use Rattle.lp_model.specs.declared.netlist.Instance.{Instance}
-use Rattle.lp_model.specs.declared.cell.Cell.{Cell}
-use Rattle.lp_model.specs.Names.{Name, has_name, is_distinct}
-use Rattle.lp_model.specs.Liberty.{pin_names}
-use Rattle.lp_model.specs.Verilog.{is_identifier}
+use Rattle.lp_small.specs.declared.netlist.Instance.{Instance}
+use Rattle.lp_small.specs.declared.cell.Cell.{Cell}
+use Rattle.lp_small.specs.Names.{Name, has_name, is_distinct}
+use Rattle.lp_small.specs.Liberty.{pin_names}
+use Rattle.lp_small.specs.Verilog.{is_identifier}
 use Rattle.lp_meaning.specs.Faults.{most_pins, connected_pins, is_joined}
 
 -- a pin of this name can stand in a connection

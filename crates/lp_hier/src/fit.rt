@@ -4,7 +4,7 @@ ghost use Rattle.lp_meaning.specs.Faults.{is_fit};
 use crate::joined::all_joined;
 use crate::nets::have_one_source;
 use lp_cells::CellIndex;
-use lp_model::Module;
+use lp_small::Module;
 use lp_text::NoMemory;
 use std::alloc::Global;
 

@@ -1,12 +1,12 @@
 ghost use Rattle.std.specs.Prelude.{◌≡◌, ◌&&◌, map};
 ghost use Rattle.std.specs.List.{list_all};
-ghost use Rattle.lp_model.specs.Names.{has_name, is_distinct};
-ghost use Rattle.lp_model.specs.Liberty.{pin_names};
+ghost use Rattle.lp_small.specs.Names.{has_name, is_distinct};
+ghost use Rattle.lp_small.specs.Liberty.{pin_names};
 ghost use Rattle.lp_hier.specs.Usable.{is_joinable, is_usable, connects_each_once, fits_cell};
 ghost use Rattle.lp_meaning.specs.Graph.{cell_named};
 
 use lp_cells::CellIndex;
-use lp_model::{Cell, Connection, Instance, Pin};
+use lp_small::{Cell, Connection, Instance, Pin};
 use lp_names::is_identifier;
 
 /// The most signal pins that a usable cell has.

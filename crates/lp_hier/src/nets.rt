@@ -1,10 +1,10 @@
 ghost use Rattle.std.specs.Prelude.{◌≡◌, ◌++◌, Some, map, flat_map, filter, IfOk, OnOk};
-ghost use Rattle.lp_model.specs.Names.{is_distinct};
+ghost use Rattle.lp_small.specs.Names.{is_distinct};
 ghost use Rattle.lp_meaning.specs.Graph.{cell_named, is_input_port};
 ghost use Rattle.lp_meaning.specs.Faults.{is_output_of, driven_by, driven_nets};
 
 use lp_cells::CellIndex;
-use lp_model::{Cell, Direction, Instance, Module, Port};
+use lp_small::{Cell, Direction, Instance, Module, Port};
 use lp_table::Table;
 use lp_text::NoMemory;
 use std::alloc::Global;

@@ -3,7 +3,7 @@ ghost use Rattle.std.specs.Option.{option_copied};
 ghost use Rattle.lp_meaning.specs.Faults.{is_unknown, first_unknown};
 
 use lp_cells::CellIndex;
-use lp_model::{Instance, Module};
+use lp_small::{Instance, Module};
 
 /// Whether the target of an instance is neither the module nor a cell.
 fn is_unknown(index: &CellIndex<'_>, netlist: &Module, instance: &Instance) -> bool

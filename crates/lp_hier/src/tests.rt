@@ -1,6 +1,6 @@
 use crate::{is_fit, unknown_target};
 use lp_cells::CellIndex;
-use lp_model::{Cell, Connection, Direction, Function, Instance, Module, Pin, Port};
+use lp_small::{Cell, Connection, Direction, Function, Instance, Module, Pin, Port};
 use lp_text::{Bytes, NoMemory};
 use sqlite_items::Items;
 use std::alloc::Global;

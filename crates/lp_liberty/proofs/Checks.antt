@@ -4,8 +4,8 @@ use Rattle.std.specs.Prelude.{◌&&◌, is_some}
 use Rattle.std.specs.List.{list_all, list_any}
 use Rattle.std.proofs.lemmas.Bool.{cond-true, cond-false}
 use Rattle.lp_text.specs.Micros.{micros_of}
-use Rattle.lp_model.specs.Names.{is_distinct}
-use Rattle.lp_model.specs.Liberty.{CellTree, is_free_name, pin_names, input_names, is_over, is_cell, cell_of}
+use Rattle.lp_small.specs.Names.{is_distinct}
+use Rattle.lp_small.specs.Liberty.{CellTree, is_free_name, pin_names, input_names, is_over, is_cell, cell_of}
 use Rattle.lp_liberty.specs.Reading.{are_names, are_pins, checked}
 use Rattle.lp_liberty.proofs.Names.{fresh-is}
 

@@ -11,9 +11,9 @@ use Rattle.lp_token.specs.Reading.{◌>>=◌, drop_while, word_is, mark_is, word
 use Rattle.lp_token.specs.Fronts.{stops, take_while-append-drop_while, take_while_front, drop_while_front}
 use Rattle.lp_token.specs.Laws.{spells-append, spells-split}
 use Rattle.lp_token.specs.Steps.{bind_some, some_same, word_is_found, word_is_again, mark_is_found, mark_is_again, word_at_found, word_at_again, quoted_at_found, quoted_at_again}
-use Rattle.lp_model.specs.declared.cell.Function.{Function}
-use Rattle.lp_model.specs.declared.cell.Function.TheVariants.{Same, Not, And, Or}
-use Rattle.lp_model.specs.Liberty.{group_tokens, attribute_tokens, pg_pin_tokens, function_text, operands}
+use Rattle.lp_small.specs.declared.cell.Function.{Function}
+use Rattle.lp_small.specs.declared.cell.Function.TheVariants.{Same, Not, And, Or}
+use Rattle.lp_small.specs.Liberty.{group_tokens, attribute_tokens, pg_pin_tokens, function_text, operands}
 use Rattle.lp_liberty.specs.Productions.{keep, group_at, value_at, string_value_at, PgPin, pg_pin_at, is_operand_byte, joined_at, function_at}
 
 -- ---- the head of a group

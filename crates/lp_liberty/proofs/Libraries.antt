@@ -8,9 +8,9 @@ use Rattle.lp_token.specs.Tokens.{Mark, BeginsWith, SpellsTo, is_filled}
 use Rattle.lp_token.specs.Reading.{◌>>=◌, is_blank_text}
 use Rattle.lp_token.specs.Laws.{spells-append, spells-split}
 use Rattle.lp_token.specs.Steps.{bind_some, some_same, test_some}
-use Rattle.lp_model.specs.declared.cell.Cell.{Cell}
-use Rattle.lp_model.specs.Names.{is_distinct}
-use Rattle.lp_model.specs.Liberty.{group_tokens, cell_tokens, CellTree, is_free_name, is_cell, cell_of, IsLibrary}
+use Rattle.lp_small.specs.declared.cell.Cell.{Cell}
+use Rattle.lp_small.specs.Names.{is_distinct}
+use Rattle.lp_small.specs.Liberty.{group_tokens, cell_tokens, CellTree, is_free_name, is_cell, cell_of, IsLibrary}
 use Rattle.lp_liberty.specs.Productions.{keep, group_at}
 use Rattle.lp_liberty.specs.Reading.{fresh, cell_at, checked, good_cell_at, cells_at, library_of}
 use Rattle.lp_liberty.proofs.Fields.{group_found, group_again, keep_found}

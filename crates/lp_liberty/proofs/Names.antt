@@ -5,12 +5,12 @@ use Rattle.lp_text.specs.Micros.{micros_of}
 use Rattle.std.specs.List.{list_all, list_any}
 use Rattle.std.proofs.lemmas.Bool.{and_parts, and_from, or_cases, cases_Bool}
 use Rattle.std.proofs.lemmas.List.{append-nil}
-use Rattle.lp_table.specs.Texts.{has_text, distinct, same_text_comm, same_text-true, distinct-push, distinct-repeated}
+use Rattle.lp_text.specs.Texts.{has_text, distinct, same_text_comm, same_text-true, distinct-push, distinct-repeated}
 use Rattle.lp_token.specs.Tokens.{is_name_byte}
-use Rattle.lp_model.specs.declared.cell.Function.{Function}
-use Rattle.lp_model.specs.declared.cell.Pin.{Pin}
-use Rattle.lp_model.specs.Names.{has_name, is_distinct, is_simple_name, begins_with_letter, is_reserved}
-use Rattle.lp_model.specs.Liberty.{is_free_name, operands, is_input, pin_names, input_names, is_over, CellTree, is_cell}
+use Rattle.lp_small.specs.declared.cell.Function.{Function}
+use Rattle.lp_small.specs.declared.cell.Pin.{Pin}
+use Rattle.lp_small.specs.Names.{has_name, is_distinct, is_simple_name, begins_with_letter, is_reserved}
+use Rattle.lp_small.specs.Liberty.{is_free_name, operands, is_input, pin_names, input_names, is_over, CellTree, is_cell}
 use Rattle.lp_liberty.specs.Reading.{fresh}
 use Rattle.lp_liberty.proofs.Fields.{is_named}
 

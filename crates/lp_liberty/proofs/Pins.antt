@@ -9,9 +9,9 @@ use Rattle.lp_token.specs.Tokens.{Token, Word, Mark, Quoted, BeginsWith, SpellsT
 use Rattle.lp_token.specs.Reading.{◌>>=◌, mark_is}
 use Rattle.lp_token.specs.Laws.{spells-append, spells-split}
 use Rattle.lp_token.specs.Steps.{bind_some, some_same, mark_is_found, mark_is_again}
-use Rattle.lp_model.specs.declared.cell.Function.{Function}
-use Rattle.lp_model.specs.declared.cell.Pin.{Pin}
-use Rattle.lp_model.specs.Liberty.{group_tokens, attribute_tokens, pg_pin_tokens, body_tokens, pin_tokens, cell_tokens, function_text, power_down_text, CellTree}
+use Rattle.lp_small.specs.declared.cell.Function.{Function}
+use Rattle.lp_small.specs.declared.cell.Pin.{Pin}
+use Rattle.lp_small.specs.Liberty.{group_tokens, attribute_tokens, pg_pin_tokens, body_tokens, pin_tokens, cell_tokens, function_text, power_down_text, CellTree}
 use Rattle.lp_liberty.specs.Productions.{keep, group_at, value_at, string_value_at, pg_pin_at, function_at}
 use Rattle.lp_liberty.specs.Reading.{output_at, body_at, pin_at, pins_at, cell_at}
 use Rattle.lp_liberty.proofs.Fields.{group_found, group_again, value_found, value_again, string_value_found, string_value_again, same_bytes, keep_found, pg_pin_found, pg_pin_again, function_found, function_again}

@@ -2,8 +2,8 @@
 use Rattle.std.specs.Prelude.{ℕ, Bool, not, ◌&&◌, ◌==◌, List, [], ◌∷◌, codes, Option, Some, None, if◌then◌else◌, take_while, bytes_eq}
 use Rattle.lp_token.specs.declared.token.Language.TheVariants.{Liberty}
 use Rattle.lp_token.specs.Reading.{◌>>=◌, drop_while, word_is, mark_is, word_at, quoted_at}
-use Rattle.lp_model.specs.declared.cell.Function.{Function}
-use Rattle.lp_model.specs.declared.cell.Function.TheVariants.{Same, Not, And, Or}
+use Rattle.lp_small.specs.declared.cell.Function.{Function}
+use Rattle.lp_small.specs.declared.cell.Function.TheVariants.{Same, Not, And, Or}
 
 -- a value where a test passes
 abbrev pub keep : {A : Type 0} → Bool → A → Option A

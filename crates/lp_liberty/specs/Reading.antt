@@ -1,14 +1,14 @@
 -- Reading pins, cells and a library, as functions on lists.
 use Rattle.std.specs.Prelude.{ℕ, zero, suc, Bool, true, not, ◌&&◌, nat_le, List, [], ◌∷◌, ◌++◌, length, map, codes, is_some, Option, Some, None, if◌then◌else◌, bytes_eq}
 use Rattle.std.specs.List.{list_all, list_any}
-use Rattle.lp_table.specs.Texts.{has_text}
+use Rattle.lp_text.specs.Texts.{has_text}
 use Rattle.lp_token.specs.declared.token.Language.TheVariants.{Liberty}
 use Rattle.lp_token.specs.Tokens.{is_filled}
 use Rattle.lp_token.specs.Reading.{◌>>=◌, mark_is, is_blank_text}
-use Rattle.lp_model.specs.declared.cell.Function.{Function}
-use Rattle.lp_model.specs.declared.cell.Pin.{Pin}
-use Rattle.lp_model.specs.declared.cell.Cell.{Cell}
-use Rattle.lp_model.specs.Liberty.{CellTree, power_down_text, is_free_name, pin_names, input_names, is_over, is_cell, cell_of}
+use Rattle.lp_small.specs.declared.cell.Function.{Function}
+use Rattle.lp_small.specs.declared.cell.Pin.{Pin}
+use Rattle.lp_small.specs.declared.cell.Cell.{Cell}
+use Rattle.lp_small.specs.Liberty.{CellTree, power_down_text, is_free_name, pin_names, input_names, is_over, is_cell, cell_of}
 use Rattle.lp_liberty.specs.Productions.{keep, group_at, value_at, string_value_at, pg_pin_at, function_at}
 
 -- the function of an output, and down, which its power_down_function says

@@ -3,7 +3,7 @@ use Rattle.std.specs.Prelude.{◌≡◌, Option, Some, None, Result, Ok, Err}
 use Rattle.lp_liberty.specs.declared.fault.ReadError.{ReadError}
 use Rattle.lp_liberty.specs.declared.fault.ReadError.TheVariants.{Memory, Off}
 use Rattle.lp_liberty.specs.declared.cell.CellText.{CellText}
-use Rattle.lp_model.specs.Liberty.{CellTree}
+use Rattle.lp_small.specs.Liberty.{CellTree}
 
 abbrev pub Fails : {Y : Type 0} → ReadError → Option Y → Type 0
 Fails Memory read = Unit {0}

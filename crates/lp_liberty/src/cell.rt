@@ -1,11 +1,11 @@
 ghost use Rattle.std.specs.Prelude.{◌≡◌, IfOk};
-ghost use Rattle.lp_model.specs.Liberty.{power_down_text};
+ghost use Rattle.lp_small.specs.Liberty.{power_down_text};
 ghost use Rattle.lp_liberty.specs.View.{Gives, tree_of};
 ghost use Rattle.lp_liberty.specs.Reading.{output_at, body_at, pin_at, pins_at, cell_at};
 
 use crate::fault::ReadError;
 use crate::production::{function, group, mark, pg_pin, string_value, value};
-use lp_model::{Function, Pin};
+use lp_small::{Function, Pin};
 use lp_text::Bytes;
 use lp_token::{Language, expect_mark};
 use sqlite_items::Items;

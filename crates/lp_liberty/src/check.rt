@@ -1,14 +1,14 @@
 ghost use Rattle.std.specs.Prelude.{◌≡◌, [], ◌∷◌, Some, is_some};
 ghost use Rattle.std.specs.List.{list_all, list_any};
-ghost use Rattle.lp_model.specs.Names.{has_name};
-ghost use Rattle.lp_model.specs.Liberty.{is_free_name, pin_names, input_names, is_over};
+ghost use Rattle.lp_small.specs.Names.{has_name};
+ghost use Rattle.lp_small.specs.Liberty.{is_free_name, pin_names, input_names, is_over};
 ghost use Rattle.lp_liberty.specs.View.{Gives, tree_of};
 ghost use Rattle.lp_liberty.specs.Reading.{fresh, are_names, are_pins, checked};
 
 use crate::cell::CellText;
 use crate::fault::ReadError;
 use crate::name::is_free_name;
-use lp_model::{Cell, Function, Pin};
+use lp_small::{Cell, Function, Pin};
 use lp_table::Table;
 use lp_text::{Bytes, micros_bytes};
 use std::alloc::Global;

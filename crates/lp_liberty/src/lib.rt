@@ -1,4 +1,4 @@
-//! Reads libraries of cells: the small form of Liberty whose grammar `lp_model` states.
+//! Reads libraries of cells: the small form of Liberty whose grammar `lp_small` states.
 #![tactic(auto)]
 
 mod cell;

@@ -1,6 +1,6 @@
 ghost use Rattle.std.specs.Prelude.{◌≡◌, ℕ, List, [], Some, IfOk, IfSome, map};
-ghost use Rattle.lp_model.specs.declared.cell.Cell.{Cell};
-ghost use Rattle.lp_model.specs.Liberty.{IsLibrary};
+ghost use Rattle.lp_small.specs.declared.cell.Cell.{Cell};
+ghost use Rattle.lp_small.specs.Liberty.{IsLibrary};
 ghost use Rattle.lp_liberty.specs.View.{Gives};
 ghost use Rattle.lp_liberty.specs.Reading.{fresh, good_cell_at, cells_at, library_of};
 
@@ -9,7 +9,7 @@ use crate::check::checked;
 use crate::fault::ReadError;
 use crate::name::is_free_name;
 use crate::production::group;
-use lp_model::Cell;
+use lp_small::Cell;
 use lp_table::Table;
 use lp_text::{LIMIT, NoMemory};
 use lp_token::{Language, expect_mark, only_blanks};

@@ -1,8 +1,8 @@
 ghost use Rattle.std.specs.Prelude.{◌≡◌};
 ghost use Rattle.std.specs.List.{list_all};
 ghost use Rattle.lp_token.specs.Tokens.{is_letter, is_name_byte};
-ghost use Rattle.lp_model.specs.Names.{begins_with_letter, is_simple_name, is_reserved};
-ghost use Rattle.lp_model.specs.Liberty.{is_free_name};
+ghost use Rattle.lp_small.specs.Names.{begins_with_letter, is_simple_name, is_reserved};
+ghost use Rattle.lp_small.specs.Liberty.{is_free_name};
 
 fn is_letter(b: u8) -> bool
     ensures { result ≡ is_letter b }

@@ -5,7 +5,7 @@ ghost use Rattle.lp_liberty.specs.View.{Gives};
 ghost use Rattle.lp_liberty.specs.Productions.{group_at, value_at, string_value_at, pg_pin_at, is_operand_byte, joined_at, function_at};
 
 use crate::fault::ReadError;
-use lp_model::Function;
+use lp_small::Function;
 use lp_text::Bytes;
 use lp_token::{Language, any_quoted, any_word, expect_mark, expect_word};
 use std::alloc::Global;

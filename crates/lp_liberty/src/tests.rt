@@ -1,5 +1,5 @@
 use super::*;
-use lp_model::Function;
+use lp_small::Function;
 use std::test::*;
 
 const HEAD: &[u8] = b"library (l) {\n";

@@ -4,11 +4,11 @@ use Rattle.std.specs.Prelude.{bytes_eq, is_some}
 use Rattle.std.specs.List.{list_all}
 use Rattle.std.proofs.lemmas.Bool.{and_parts, and_from}
 use Rattle.lp_text.specs.Micros.{micros_of}
-use Rattle.lp_model.specs.declared.cell.Cell.{Cell}
-use Rattle.lp_model.specs.Names.{is_distinct}
-use Rattle.lp_model.specs.Liberty.{CellTree, LibraryTree, IsLibrary, is_library, is_cell, is_free_name, is_over, input_names, pin_names, cell_of}
-use Rattle.lp_model.specs.Verilog.{IsSource}
-use Rattle.lp_model.specs.Upf.{IsIntent}
+use Rattle.lp_small.specs.declared.cell.Cell.{Cell}
+use Rattle.lp_small.specs.Names.{is_distinct}
+use Rattle.lp_small.specs.Liberty.{CellTree, LibraryTree, IsLibrary, is_library, is_cell, is_free_name, is_over, input_names, pin_names, cell_of}
+use Rattle.lp_small.specs.Verilog.{IsSource}
+use Rattle.lp_small.specs.Upf.{IsIntent}
 use Rattle.lp_meaning.specs.Graph.{cell_named}
 use Rattle.lp_meaning.specs.Intent.{Design}
 use Rattle.lp_meaning.specs.Faults.{Inputs, HasCells, ReadsAll, Accepts, is_fit, is_joined, driven_nets}

@@ -12,14 +12,14 @@ use Rattle.lp_tern.specs.declared.supply.SupplyState.TheVariants.{On, Off, Unkno
 use Rattle.lp_tern.specs.Values.{replacements, agreed}
 use Rattle.lp_tern.specs.Expression.{Expression, Variable, Complement, Either, Both, has, variables, holds, choices, chosen, value}
 use Rattle.lp_tern.specs.ExpressionLaws.{value-same}
-use Rattle.lp_model.specs.declared.netlist.Instance.{Instance}
-use Rattle.lp_model.specs.declared.netlist.Module.{Module}
-use Rattle.lp_model.specs.declared.cell.Function.{Function}
-use Rattle.lp_model.specs.declared.cell.Function.TheVariants.{Same, Not, And, Or}
-use Rattle.lp_model.specs.declared.cell.Cell.{Cell}
-use Rattle.lp_model.specs.declared.intent.Intent.{Intent}
-use Rattle.lp_model.specs.Names.{Name, has_name}
-use Rattle.lp_model.specs.Liberty.{operands}
+use Rattle.lp_small.specs.declared.netlist.Instance.{Instance}
+use Rattle.lp_small.specs.declared.netlist.Module.{Module}
+use Rattle.lp_small.specs.declared.cell.Function.{Function}
+use Rattle.lp_small.specs.declared.cell.Function.TheVariants.{Same, Not, And, Or}
+use Rattle.lp_small.specs.declared.cell.Cell.{Cell}
+use Rattle.lp_small.specs.declared.intent.Intent.{Intent}
+use Rattle.lp_small.specs.Names.{Name, has_name}
+use Rattle.lp_small.specs.Liberty.{operands}
 use Rattle.lp_meaning.specs.Keys.{Key, Node, Origin, Value, Logic, State, Assignment, logic_at, state_at}
 use Rattle.lp_meaning.specs.Supply.{Supply, is_on, voltage, is_supplied, under, kept, read_by, up_level}
 use Rattle.lp_meaning.specs.Graph.{Driver, Source, Outside, Driven, cell_named, net_at, drivers, source_of, first_source, expression_of, power_down_of, input_ports}

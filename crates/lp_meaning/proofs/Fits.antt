@@ -4,15 +4,15 @@ use Rattle.std.specs.Prelude.{filter, flat_map, bytes_eq, is_some}
 use Rattle.std.specs.List.{list_all, list_any, find}
 use Rattle.std.proofs.lemmas.Bool.{or_cases, cases_Bool, both_ways, false≢true, and_parts, not-true}
 use Rattle.std.proofs.lemmas.Slice.Eq.{bytes_eq-Decides}
-use Rattle.lp_model.specs.declared.netlist.Connection.{Connection}
-use Rattle.lp_model.specs.declared.netlist.Instance.{Instance}
-use Rattle.lp_model.specs.declared.cell.Function.{Function}
-use Rattle.lp_model.specs.declared.cell.Pin.{Pin}
-use Rattle.lp_model.specs.declared.cell.Cell.{Cell}
-use Rattle.lp_model.specs.declared.intent.Intent.{Intent}
-use Rattle.lp_model.specs.Names.{Name, has_name, is_distinct}
-use Rattle.lp_model.specs.Liberty.{operands, pin_names, input_names, is_input, is_over}
-use Rattle.lp_model.specs.Verilog.{is_identifier}
+use Rattle.lp_small.specs.declared.netlist.Connection.{Connection}
+use Rattle.lp_small.specs.declared.netlist.Instance.{Instance}
+use Rattle.lp_small.specs.declared.cell.Function.{Function}
+use Rattle.lp_small.specs.declared.cell.Pin.{Pin}
+use Rattle.lp_small.specs.declared.cell.Cell.{Cell}
+use Rattle.lp_small.specs.declared.intent.Intent.{Intent}
+use Rattle.lp_small.specs.Names.{Name, has_name, is_distinct}
+use Rattle.lp_small.specs.Liberty.{operands, pin_names, input_names, is_input, is_over}
+use Rattle.lp_small.specs.Verilog.{is_identifier}
 use Rattle.lp_meaning.specs.Graph.{Driver, Source, Outside, Driven, cell_named, net_among, net_at, connects, driver_with, driver_at, drivers_of, first_source}
 use Rattle.lp_meaning.specs.Faults.{is_joined, connected_pins}
 use Rattle.lp_meaning.specs.Sound.{is_sound_cell}

@@ -9,9 +9,9 @@ use Rattle.lp_tern.specs.declared.supply.SupplyState.{SupplyState}
 use Rattle.lp_tern.specs.declared.supply.SupplyState.TheVariants.{Unknown}
 use Rattle.lp_tern.specs.Expression.{Variable, has, variables, value}
 use Rattle.lp_tern.specs.ExpressionLaws.{value-same}
-use Rattle.lp_model.specs.declared.netlist.Module.{Module}
-use Rattle.lp_model.specs.Names.{Name, has_name}
-use Rattle.lp_model.specs.Liberty.{operands}
+use Rattle.lp_small.specs.declared.netlist.Module.{Module}
+use Rattle.lp_small.specs.Names.{Name, has_name}
+use Rattle.lp_small.specs.Liberty.{operands}
 use Rattle.lp_meaning.specs.Keys.{Key, Node, Origin, Value, Logic, State, has_key, Assignment, logic_in, logic_at, state_in, state_at}
 use Rattle.lp_meaning.specs.Settling.{Equations, LooksAt, Settles, SettlesOnce}
 use Rattle.lp_meaning.specs.Supply.{Supply, is_supplied, kept, read_by}

@@ -7,16 +7,16 @@ use Rattle.std.proofs.lemmas.List.Folds.{list_any-append, list_all-append}
 use Rattle.std.proofs.lemmas.List.{map-append}
 use Rattle.std.proofs.lemmas.Slice.Eq.{bytes_eq-Decides}
 use Rattle.lp_token.specs.Tokens.{is_filled, is_name_byte}
-use Rattle.lp_model.specs.declared.netlist.Port.{Port}
-use Rattle.lp_model.specs.declared.netlist.Connection.{Connection}
-use Rattle.lp_model.specs.declared.netlist.Instance.{Instance}
-use Rattle.lp_model.specs.declared.netlist.Module.{Module}
-use Rattle.lp_model.specs.declared.cell.Cell.{Cell}
-use Rattle.lp_model.specs.declared.intent.Intent.{Intent}
-use Rattle.lp_model.specs.Names.{Name, has_name, is_reserved, is_distinct, is_simple_name, begins_with_letter}
-use Rattle.lp_model.specs.Liberty.{is_free_name, pin_names}
-use Rattle.lp_model.specs.Verilog.{is_identifier, is_instance, is_connection, is_declaration, is_spelled, IsDeclared, ModuleTree, Declaration, Kind, InputPort, OutputPort, Wire, is_kind, declared, module_of, port_of, port_names, instance_names, nets_of, names_in_instance, all_among, is_free, Reads, inputs_of, wires_of, reserved_words}
-use Rattle.lp_model.specs.WellFormed.{IsWellFormed}
+use Rattle.lp_small.specs.declared.netlist.Port.{Port}
+use Rattle.lp_small.specs.declared.netlist.Connection.{Connection}
+use Rattle.lp_small.specs.declared.netlist.Instance.{Instance}
+use Rattle.lp_small.specs.declared.netlist.Module.{Module}
+use Rattle.lp_small.specs.declared.cell.Cell.{Cell}
+use Rattle.lp_small.specs.declared.intent.Intent.{Intent}
+use Rattle.lp_small.specs.Names.{Name, has_name, is_reserved, is_distinct, is_simple_name, begins_with_letter}
+use Rattle.lp_small.specs.Liberty.{is_free_name, pin_names}
+use Rattle.lp_small.specs.Verilog.{is_identifier, is_instance, is_connection, is_declaration, is_spelled, IsDeclared, ModuleTree, Declaration, Kind, InputPort, OutputPort, Wire, is_kind, declared, module_of, port_of, port_names, instance_names, nets_of, names_in_instance, all_among, is_free, Reads, inputs_of, wires_of, reserved_words}
+use Rattle.lp_small.specs.WellFormed.{IsWellFormed}
 use Rattle.lp_meaning.specs.Graph.{cell_named}
 use Rattle.lp_meaning.specs.Intent.{Design, origins}
 use Rattle.lp_meaning.specs.Faults.{is_joined}

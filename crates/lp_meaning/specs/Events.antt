@@ -4,7 +4,7 @@ use Rattle.lp_tern.specs.declared.tern.Tern.{Tern}
 use Rattle.lp_tern.specs.declared.tern.Tern.TheVariants.{X}
 use Rattle.lp_tern.specs.declared.supply.SupplyState.{SupplyState}
 use Rattle.lp_tern.specs.declared.supply.SupplyState.TheVariants.{Unknown}
-use Rattle.lp_model.specs.Names.{Name}
+use Rattle.lp_small.specs.Names.{Name}
 use Rattle.lp_meaning.specs.Keys.{Key, Node, Origin, Value, Logic, State, Assignment}
 
 -- a value for each top input and a state for each supply port, as they stand after the changes

@@ -1,16 +1,16 @@
 -- What is refused, in which order: the first line that holds is the fault (own rule).
 use Rattle.std.specs.Prelude.{◌≡◌, ℕ, ◌+◌, Bool, true, false, not, ◌&&◌, ◌||◌, ◌≤◌, nat_le, List, [], ◌∷◌, ◌++◌, map, flat_map, filter, find, codes, bytes_eq, length, Option, Some, None, is_some, IsTrue}
 use Rattle.std.specs.List.{list_all, list_any}
-use Rattle.lp_model.specs.declared.netlist.Connection.{Connection}
-use Rattle.lp_model.specs.declared.netlist.Instance.{Instance}
-use Rattle.lp_model.specs.declared.netlist.Module.{Module}
-use Rattle.lp_model.specs.declared.cell.Pin.{Pin}
-use Rattle.lp_model.specs.declared.cell.Cell.{Cell}
-use Rattle.lp_model.specs.declared.intent.Intent.{Intent}
-use Rattle.lp_model.specs.Names.{Name, has_name, is_distinct}
-use Rattle.lp_model.specs.Liberty.{IsLibrary, pin_names}
-use Rattle.lp_model.specs.Verilog.{IsSource, is_identifier}
-use Rattle.lp_model.specs.Upf.{IsIntent}
+use Rattle.lp_small.specs.declared.netlist.Connection.{Connection}
+use Rattle.lp_small.specs.declared.netlist.Instance.{Instance}
+use Rattle.lp_small.specs.declared.netlist.Module.{Module}
+use Rattle.lp_small.specs.declared.cell.Pin.{Pin}
+use Rattle.lp_small.specs.declared.cell.Cell.{Cell}
+use Rattle.lp_small.specs.declared.intent.Intent.{Intent}
+use Rattle.lp_small.specs.Names.{Name, has_name, is_distinct}
+use Rattle.lp_small.specs.Liberty.{IsLibrary, pin_names}
+use Rattle.lp_small.specs.Verilog.{IsSource, is_identifier}
+use Rattle.lp_small.specs.Upf.{IsIntent}
 use Rattle.lp_meaning.specs.Graph.{cell_named, input_ports}
 use Rattle.lp_meaning.specs.Keys.{Key}
 use Rattle.lp_meaning.specs.Settling.{Reaches}

@@ -3,18 +3,18 @@
 use Rattle.std.specs.Prelude.{ℕ, Bool, true, false, not, ◌&&◌, List, [], ◌∷◌, ◌++◌, map, flat_map, filter, bytes_eq, find, Option, Some, None, is_some, if◌then◌else◌}
 use Rattle.std.specs.List.{list_any}
 use Rattle.lp_tern.specs.Expression.{Expression, Variable, Complement, Both, Either}
-use Rattle.lp_model.specs.declared.netlist.Direction.{Direction}
-use Rattle.lp_model.specs.declared.netlist.Direction.TheVariants.{Input, Output}
-use Rattle.lp_model.specs.declared.netlist.Port.{Port}
-use Rattle.lp_model.specs.declared.netlist.Connection.{Connection}
-use Rattle.lp_model.specs.declared.netlist.Instance.{Instance}
-use Rattle.lp_model.specs.declared.netlist.Module.{Module}
-use Rattle.lp_model.specs.declared.cell.Function.{Function}
-use Rattle.lp_model.specs.declared.cell.Function.TheVariants.{Same, Not, And, Or}
-use Rattle.lp_model.specs.declared.cell.Pin.{Pin}
-use Rattle.lp_model.specs.declared.cell.Cell.{Cell}
-use Rattle.lp_model.specs.Names.{Name, has_name}
-use Rattle.lp_model.specs.Liberty.{operands}
+use Rattle.lp_small.specs.declared.netlist.Direction.{Direction}
+use Rattle.lp_small.specs.declared.netlist.Direction.TheVariants.{Input, Output}
+use Rattle.lp_small.specs.declared.netlist.Port.{Port}
+use Rattle.lp_small.specs.declared.netlist.Connection.{Connection}
+use Rattle.lp_small.specs.declared.netlist.Instance.{Instance}
+use Rattle.lp_small.specs.declared.netlist.Module.{Module}
+use Rattle.lp_small.specs.declared.cell.Function.{Function}
+use Rattle.lp_small.specs.declared.cell.Function.TheVariants.{Same, Not, And, Or}
+use Rattle.lp_small.specs.declared.cell.Pin.{Pin}
+use Rattle.lp_small.specs.declared.cell.Cell.{Cell}
+use Rattle.lp_small.specs.Names.{Name, has_name}
+use Rattle.lp_small.specs.Liberty.{operands}
 
 -- the Boolean expression of an output (Liberty function)
 abbrev pub expression_of : Function → Expression

@@ -6,12 +6,12 @@ use Rattle.lp_tern.specs.declared.tern.Tern.TheVariants.{X}
 use Rattle.lp_tern.specs.declared.supply.SupplyState.{SupplyState}
 use Rattle.lp_tern.specs.declared.supply.SupplyState.TheVariants.{On, Off, Unknown}
 use Rattle.lp_tern.specs.Expression.{value}
-use Rattle.lp_model.specs.declared.netlist.Module.{Module}
-use Rattle.lp_model.specs.declared.netlist.Instance.{Instance}
-use Rattle.lp_model.specs.declared.cell.Cell.{Cell}
-use Rattle.lp_model.specs.declared.intent.Intent.{Intent}
-use Rattle.lp_model.specs.Names.{Name, has_name}
-use Rattle.lp_model.specs.Liberty.{operands}
+use Rattle.lp_small.specs.declared.netlist.Module.{Module}
+use Rattle.lp_small.specs.declared.netlist.Instance.{Instance}
+use Rattle.lp_small.specs.declared.cell.Cell.{Cell}
+use Rattle.lp_small.specs.declared.intent.Intent.{Intent}
+use Rattle.lp_small.specs.Names.{Name, has_name}
+use Rattle.lp_small.specs.Liberty.{operands}
 use Rattle.lp_meaning.specs.Keys.{Key, Node, Origin, Value, Logic, State, Assignment, logic_at, state_at}
 use Rattle.lp_meaning.specs.Settling.{Equations, Settles}
 use Rattle.lp_meaning.specs.Supply.{Supply, is_supplied, kept, read_by}

@@ -5,7 +5,7 @@ use Rattle.lp_tern.specs.declared.tern.Tern.{Tern}
 use Rattle.lp_tern.specs.declared.tern.Tern.TheVariants.{X}
 use Rattle.lp_tern.specs.declared.supply.SupplyState.{SupplyState}
 use Rattle.lp_tern.specs.declared.supply.SupplyState.TheVariants.{Unknown}
-use Rattle.lp_model.specs.Names.{Name}
+use Rattle.lp_small.specs.Names.{Name}
 
 pub data Key : Type 0 where
   Node : Name → Key

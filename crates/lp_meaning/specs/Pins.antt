@@ -5,10 +5,10 @@ use Rattle.lp_tern.specs.declared.tern.Tern.TheVariants.{Zero, One, X}
 use Rattle.lp_tern.specs.declared.supply.SupplyState.{SupplyState}
 use Rattle.lp_tern.specs.declared.supply.SupplyState.TheVariants.{Unknown}
 use Rattle.lp_tern.specs.Expression.{Expression, Variable, Constant, Complement, Both, Either, Differ, value}
-use Rattle.lp_model.specs.declared.netlist.Module.{Module}
-use Rattle.lp_model.specs.declared.netlist.Instance.{Instance}
-use Rattle.lp_model.specs.declared.cell.Cell.{Cell}
-use Rattle.lp_model.specs.Names.{Name, has_name}
+use Rattle.lp_small.specs.declared.netlist.Module.{Module}
+use Rattle.lp_small.specs.declared.netlist.Instance.{Instance}
+use Rattle.lp_small.specs.declared.cell.Cell.{Cell}
+use Rattle.lp_small.specs.Names.{Name, has_name}
 use Rattle.lp_meaning.specs.Keys.{Key, Node, Origin, Value, Logic, State, Assignment, logic_at, state_at}
 use Rattle.lp_meaning.specs.Settling.{Equations, Settles}
 use Rattle.lp_meaning.specs.Supply.{Supply, is_supplied, kept, read_by, up_level}

@@ -1,8 +1,8 @@
 -- What is promised of the texts that are written for inputs without fault.
 use Rattle.std.specs.Prelude.{◌≡◌, ℕ, List}
-use Rattle.lp_model.specs.declared.netlist.Module.{Module}
-use Rattle.lp_model.specs.Verilog.{Reads}
-use Rattle.lp_model.specs.Layout.{layout}
+use Rattle.lp_small.specs.declared.netlist.Module.{Module}
+use Rattle.lp_small.specs.Verilog.{Reads}
+use Rattle.lp_small.specs.Layout.{layout}
 use Rattle.lp_meaning.specs.Intent.{Design}
 use Rattle.lp_meaning.specs.Faults.{Inputs, Accepts}
 use Rattle.lp_meaning.specs.Written.{powered, Supplied, supply_ports, report_text, Headline}

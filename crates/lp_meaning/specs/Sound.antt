@@ -1,10 +1,10 @@
 -- What is known of a design that is accepted: the premises of the theorem on its netlist.
 use Rattle.std.specs.Prelude.{ℕ, Bool, not, ◌&&◌, List, [], ◌∷◌, bytes_eq, IsTrue}
 use Rattle.std.specs.List.{list_all}
-use Rattle.lp_model.specs.declared.cell.Cell.{Cell}
-use Rattle.lp_model.specs.Names.{is_distinct}
-use Rattle.lp_model.specs.Liberty.{pin_names, input_names, is_over}
-use Rattle.lp_model.specs.Verilog.{is_free}
+use Rattle.lp_small.specs.declared.cell.Cell.{Cell}
+use Rattle.lp_small.specs.Names.{is_distinct}
+use Rattle.lp_small.specs.Liberty.{pin_names, input_names, is_over}
+use Rattle.lp_small.specs.Verilog.{is_free}
 use Rattle.lp_meaning.specs.Keys.{Key}
 use Rattle.lp_meaning.specs.Settling.{IsOrder, Covers}
 use Rattle.lp_meaning.specs.Graph.{cell_named}

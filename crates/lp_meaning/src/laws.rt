@@ -1,11 +1,11 @@
 //! Laws about the definitions alone: each is the clause of a function that does nothing.
 ghost use Rattle.std.specs.Prelude.{◌≡◌, ℕ, List, map, IsTrue};
-ghost use Rattle.lp_model.specs.declared.netlist.Module.{Module};
-ghost use Rattle.lp_model.specs.declared.cell.Cell.{Cell};
-ghost use Rattle.lp_model.specs.Names.{is_distinct};
-ghost use Rattle.lp_model.specs.Liberty.{is_free_name, IsLibrary};
-ghost use Rattle.lp_model.specs.Verilog.{Reads};
-ghost use Rattle.lp_model.specs.WellFormed.{IsWellFormed};
+ghost use Rattle.lp_small.specs.declared.netlist.Module.{Module};
+ghost use Rattle.lp_small.specs.declared.cell.Cell.{Cell};
+ghost use Rattle.lp_small.specs.Names.{is_distinct};
+ghost use Rattle.lp_small.specs.Liberty.{is_free_name, IsLibrary};
+ghost use Rattle.lp_small.specs.Verilog.{Reads};
+ghost use Rattle.lp_small.specs.WellFormed.{IsWellFormed};
 ghost use Rattle.lp_meaning.specs.Keys.{Key};
 ghost use Rattle.lp_meaning.specs.Settling.{IsOrder, Covers, Equations, LooksAt, SettlesOnce};
 ghost use Rattle.lp_meaning.specs.Intent.{Design};

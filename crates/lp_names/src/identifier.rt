@@ -1,8 +1,8 @@
 ghost use Rattle.std.specs.Prelude.{◌≡◌};
 ghost use Rattle.std.specs.List.{list_all};
 ghost use Rattle.lp_token.specs.Tokens.{is_letter, is_name_byte};
-ghost use Rattle.lp_model.specs.Names.{begins_with_letter};
-ghost use Rattle.lp_model.specs.Verilog.{is_identifier};
+ghost use Rattle.lp_small.specs.Names.{begins_with_letter};
+ghost use Rattle.lp_small.specs.Verilog.{is_identifier};
 
 use crate::reserved::is_reserved;
 

@@ -1,6 +1,6 @@
 ghost use Rattle.std.specs.Prelude.{◌≡◌};
-ghost use Rattle.lp_model.specs.Names.{has_name};
-ghost use Rattle.lp_model.specs.Verilog.{reserved_words};
+ghost use Rattle.lp_small.specs.Names.{has_name};
+ghost use Rattle.lp_small.specs.Verilog.{reserved_words};
 
 /// The reserved words of Verilog (IEEE 1364-2005, annex B).
 static RESERVED: [&[u8]; 124] = [

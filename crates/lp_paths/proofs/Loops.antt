@@ -8,21 +8,21 @@ use Rattle.std.proofs.lemmas.List.Elements.{All-map, Contains-append_left, Conta
 use Rattle.std.proofs.lemmas.List.Folds.{list_all-append, list_any-append}
 use Rattle.std.proofs.lemmas.Option.{slice_get-get_or, slice_get_within, get_or_from_slice_get}
 use Rattle.std.proofs.lemmas.Slice.Eq.{bytes_eq-Decides}
-use Rattle.lp_table.specs.Texts.{place_of, distinct, place_of-Some, is_some-place_of, distinct-append_left}
+use Rattle.lp_text.specs.Texts.{place_of, distinct, place_of-Some, is_some-place_of, distinct-append_left}
 use Rattle.lp_order.specs.Order as order
 use Rattle.lp_order.specs.Order.{one_read, more_reads}
 use Rattle.lp_order.proofs.OrderLaws.{Contains-cons_cases, Contains-first, Reaches-within}
-use Rattle.lp_model.specs.declared.netlist.Connection.{Connection}
-use Rattle.lp_model.specs.declared.netlist.Instance.{Instance}
-use Rattle.lp_model.specs.declared.netlist.Module.{Module}
-use Rattle.lp_model.specs.declared.netlist.Port.{Port}
-use Rattle.lp_model.specs.declared.cell.Function.{Function}
-use Rattle.lp_model.specs.declared.cell.Function.TheVariants.{Same, Not, And, Or}
-use Rattle.lp_model.specs.declared.cell.Cell.{Cell}
-use Rattle.lp_model.specs.Names.{Name, has_name}
-use Rattle.lp_model.specs.Liberty.{operands}
-use Rattle.lp_model.specs.Verilog.{port_names, nets_of, all_among, instance_names}
-use Rattle.lp_model.specs.WellFormed.{IsWellFormed}
+use Rattle.lp_small.specs.declared.netlist.Connection.{Connection}
+use Rattle.lp_small.specs.declared.netlist.Instance.{Instance}
+use Rattle.lp_small.specs.declared.netlist.Module.{Module}
+use Rattle.lp_small.specs.declared.netlist.Port.{Port}
+use Rattle.lp_small.specs.declared.cell.Function.{Function}
+use Rattle.lp_small.specs.declared.cell.Function.TheVariants.{Same, Not, And, Or}
+use Rattle.lp_small.specs.declared.cell.Cell.{Cell}
+use Rattle.lp_small.specs.Names.{Name, has_name}
+use Rattle.lp_small.specs.Liberty.{operands}
+use Rattle.lp_small.specs.Verilog.{port_names, nets_of, all_among, instance_names}
+use Rattle.lp_small.specs.WellFormed.{IsWellFormed}
 use Rattle.lp_meaning.specs.Keys.{Key, Node, Origin, has_key}
 use Rattle.lp_meaning.specs.Settling.{AllIn, IsOrder, Covers, Reaches}
 use Rattle.lp_meaning.specs.Graph.{Driver, Source, Outside, Driven, cell_named, net_among, net_at, connects, driver_with, driver_at, drivers_of, drivers, is_input_port, input_ports, first_source, source_of}

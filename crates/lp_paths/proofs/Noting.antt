@@ -4,8 +4,8 @@ use Rattle.std.specs.Prelude.{map, flat_map, replicate, is_some, bytes_eq, slice
 use Rattle.std.specs.Option.{option_map}
 use Rattle.std.proofs.lemmas.Bool.{cases_Bool, true≢false, and_parts, not-true}
 use Rattle.std.proofs.lemmas.List.{drop_more}
-use Rattle.lp_table.specs.Texts.{same_text, has_text, place_of, distinct, distinct-repeated, same_text-true}
-use Rattle.lp_model.specs.Names.{Name}
+use Rattle.lp_text.specs.Texts.{same_text, has_text, place_of, distinct, distinct-repeated, same_text-true}
+use Rattle.lp_small.specs.Names.{Name}
 use Rattle.lp_paths.specs.declared.operands.Operands.{Operands}
 use Rattle.lp_paths.specs.Sources.{Entry, note_at, note, note_all, add_text, add_texts}
 

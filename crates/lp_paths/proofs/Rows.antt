@@ -2,15 +2,15 @@
 use Rattle.std.proofs.Common.{◌≡◌, ℕ, Bool, true, false, ◌||◌, ◌&&◌, cond, List, [], ◌∷◌, ◌++◌, Option, None, Some, refl, sym, ap, ◌∙◌}
 use Rattle.std.specs.Prelude.{map, flat_map, filter, bytes_eq}
 use Rattle.std.specs.List.{list_any}
-use Rattle.lp_table.specs.Texts.{distinct}
-use Rattle.lp_model.specs.declared.netlist.Port.{Port}
-use Rattle.lp_model.specs.declared.netlist.Connection.{Connection}
-use Rattle.lp_model.specs.declared.netlist.Instance.{Instance}
-use Rattle.lp_model.specs.declared.netlist.Module.{Module}
-use Rattle.lp_model.specs.declared.cell.Function.{Function}
-use Rattle.lp_model.specs.declared.cell.Pin.{Pin}
-use Rattle.lp_model.specs.declared.cell.Cell.{Cell}
-use Rattle.lp_model.specs.Names.{Name, has_name}
+use Rattle.lp_text.specs.Texts.{distinct}
+use Rattle.lp_small.specs.declared.netlist.Port.{Port}
+use Rattle.lp_small.specs.declared.netlist.Connection.{Connection}
+use Rattle.lp_small.specs.declared.netlist.Instance.{Instance}
+use Rattle.lp_small.specs.declared.netlist.Module.{Module}
+use Rattle.lp_small.specs.declared.cell.Function.{Function}
+use Rattle.lp_small.specs.declared.cell.Pin.{Pin}
+use Rattle.lp_small.specs.declared.cell.Cell.{Cell}
+use Rattle.lp_small.specs.Names.{Name, has_name}
 use Rattle.lp_meaning.specs.Graph.{Driver, Source, Outside, Driven, cell_named, connects, driver_with, driver_at, drivers_of, drivers, is_input_port, input_ports, first_source, source_of}
 use Rattle.lp_paths.specs.declared.operands.Operands.{Operands}
 use Rattle.lp_paths.specs.Sources.{operands_of, no_operands, connection_entries, function_entries, pin_entries, cell_entries, instance_entries, port_entries, noted, row_of}

@@ -2,11 +2,11 @@
 use Rattle.std.specs.Prelude.{ℕ, Bool, ◌&&◌, List, [], ◌∷◌, ◌++◌, flat_map, codes}
 use Rattle.std.specs.List.{list_all}
 use Rattle.lp_token.specs.Tokens.{is_filled}
-use Rattle.lp_model.specs.declared.netlist.Direction.TheVariants.{Input, Output}
-use Rattle.lp_model.specs.declared.netlist.Instance.{Instance}
-use Rattle.lp_model.specs.declared.netlist.Module.{Module}
-use Rattle.lp_model.specs.Names.{is_distinct}
-use Rattle.lp_model.specs.Verilog.{is_identifier, is_instance, port_names, instance_names, nets_of, all_among}
+use Rattle.lp_small.specs.declared.netlist.Direction.TheVariants.{Input, Output}
+use Rattle.lp_small.specs.declared.netlist.Instance.{Instance}
+use Rattle.lp_small.specs.declared.netlist.Module.{Module}
+use Rattle.lp_small.specs.Names.{is_distinct}
+use Rattle.lp_small.specs.Verilog.{is_identifier, is_instance, port_names, instance_names, nets_of, all_among}
 
 abbrev pub gate : ℕ → ℕ → ℕ → Instance
 gate a b y = record {

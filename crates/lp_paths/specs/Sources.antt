@@ -1,16 +1,16 @@
 -- The nets of a module by their numbers, and the source of each as it is noted.
 use Rattle.std.specs.Prelude.{ℕ, List, [], ◌∷◌, ◌++◌, flat_map, bytes_eq, Option, Some, None, is_some, if◌then◌else◌, slice_index_or, slice_set, replicate, length, option_to_list}
-use Rattle.lp_table.specs.Texts.{has_text, place_of}
-use Rattle.lp_model.specs.declared.netlist.Port.{Port}
-use Rattle.lp_model.specs.declared.netlist.Connection.{Connection}
-use Rattle.lp_model.specs.declared.netlist.Instance.{Instance}
-use Rattle.lp_model.specs.declared.netlist.Module.{Module}
-use Rattle.lp_model.specs.declared.cell.Function.{Function}
-use Rattle.lp_model.specs.declared.cell.Function.TheVariants.{Same, Not, And, Or}
-use Rattle.lp_model.specs.declared.cell.Pin.{Pin}
-use Rattle.lp_model.specs.declared.cell.Cell.{Cell}
-use Rattle.lp_model.specs.Names.{Name}
-use Rattle.lp_model.specs.Verilog.{port_names}
+use Rattle.lp_text.specs.Texts.{has_text, place_of}
+use Rattle.lp_small.specs.declared.netlist.Port.{Port}
+use Rattle.lp_small.specs.declared.netlist.Connection.{Connection}
+use Rattle.lp_small.specs.declared.netlist.Instance.{Instance}
+use Rattle.lp_small.specs.declared.netlist.Module.{Module}
+use Rattle.lp_small.specs.declared.cell.Function.{Function}
+use Rattle.lp_small.specs.declared.cell.Function.TheVariants.{Same, Not, And, Or}
+use Rattle.lp_small.specs.declared.cell.Pin.{Pin}
+use Rattle.lp_small.specs.declared.cell.Cell.{Cell}
+use Rattle.lp_small.specs.Names.{Name}
+use Rattle.lp_small.specs.Verilog.{port_names}
 use Rattle.lp_meaning.specs.Graph.{cell_named, net_at, is_input_port}
 use Rattle.lp_paths.specs.declared.operands.Operands.{Operands}
 

@@ -1,12 +1,12 @@
 ghost use Rattle.std.specs.Prelude.{◌≡◌, ◌<◌, ◌^◌, length, map, IsTrue, IfOk};
 ghost use Rattle.std.specs.Option.{option_map};
-ghost use Rattle.lp_model.specs.Names.{is_distinct};
-ghost use Rattle.lp_model.specs.Verilog.{instance_names};
+ghost use Rattle.lp_small.specs.Names.{is_distinct};
+ghost use Rattle.lp_small.specs.Verilog.{instance_names};
 ghost use Rattle.lp_meaning.specs.Graph.{net_at};
 ghost use Rattle.lp_paths.specs.Sources.{net_names, add_texts, number_at, operands_of};
 
 use crate::operands::Operands;
-use lp_model::{Function, Instance, Module, Port};
+use lp_small::{Function, Instance, Module, Port};
 use lp_table::Table;
 use lp_text::{Bytes, NoMemory};
 use std::alloc::Global;

@@ -1,6 +1,6 @@
 ghost use Rattle.std.specs.Prelude.{◌≡◌, ◌<◌, ◌+◌, ◌^◌, [], ◌∷◌, ◌++◌, length, map, IfOk, OnOk};
 ghost use Rattle.std.specs.Bool.{OnTrue, OnFalse};
-ghost use Rattle.lp_model.specs.WellFormed.{IsWellFormed};
+ghost use Rattle.lp_small.specs.WellFormed.{IsWellFormed};
 ghost use Rattle.lp_meaning.specs.Intent.{Design};
 ghost use Rattle.lp_meaning.specs.Faults.{HasLoop};
 ghost use Rattle.lp_meaning.specs.Sound.{IsOrdered};
@@ -10,7 +10,7 @@ use crate::nets::numbered;
 use crate::operands::Operands;
 use crate::sources::sources;
 use lp_cells::CellIndex;
-use lp_model::Module;
+use lp_small::Module;
 use lp_order::{Graph, is_ordered};
 use lp_text::NoMemory;
 use std::alloc::Global;

@@ -4,7 +4,7 @@ ghost use Rattle.lp_paths.specs.Sources.{connection_entries, function_entries, p
 use crate::nets::operands_of;
 use crate::operands::Operands;
 use lp_cells::CellIndex;
-use lp_model::{Direction, Instance, Module, Pin, Port};
+use lp_small::{Direction, Instance, Module, Pin, Port};
 use lp_table::Table;
 use lp_text::NoMemory;
 use std::alloc::Global;

@@ -3,7 +3,7 @@ ghost use Rattle.lp_paths.specs.Samples.{gate, gates, sample, is_sample};
 
 use crate::has_loop;
 use lp_cells::CellIndex;
-use lp_model::{Cell, Connection, Direction, Function, Instance, Module, Pin, Port};
+use lp_small::{Cell, Connection, Direction, Function, Instance, Module, Pin, Port};
 use lp_text::{Bytes, NoMemory};
 use sqlite_items::Items;
 use std::alloc::Global;

@@ -1,7 +1,7 @@
 ghost use Rattle.std.specs.Prelude.{◌≡◌, ◌++◌, Some, IfOk, OnOk};
 ghost use Rattle.lp_meaning.specs.Written.{supply_port, joined_to, supply_joins, supply_input};
 
-use lp_model::{Cell, Connection, Direction, Intent, Port};
+use lp_small::{Cell, Connection, Direction, Intent, Port};
 use lp_text::{Bytes, NoMemory};
 use sqlite_items::Items;
 use std::alloc::Global;

@@ -4,7 +4,7 @@ ghost use Rattle.lp_meaning.specs.Written.{supply_input, powered_instance, power
 
 use crate::joins::{join_supplies, supply_input};
 use lp_cells::CellIndex;
-use lp_model::{Instance, Intent, Module, Port};
+use lp_small::{Instance, Intent, Module, Port};
 use lp_text::NoMemory;
 use sqlite_items::Items;
 use std::alloc::Global;

@@ -1,6 +1,6 @@
 use crate::connect_all;
 use lp_cells::CellIndex;
-use lp_model::{Cell, Connection, Direction, Instance, Intent, Module, Port};
+use lp_small::{Cell, Connection, Direction, Instance, Intent, Module, Port};
 use lp_text::{Bytes, NoMemory};
 use sqlite_items::Items;
 use std::alloc::Global;

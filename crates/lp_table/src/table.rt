@@ -1,5 +1,5 @@
 ghost use Rattle.std.specs.Prelude.{◌≡◌, ◌<◌, [], ◌∷◌, ◌++◌, length, not, false, ◌==◌, slice_index_or, IsTrue, IfOk, OnErr, if◌then◌else◌};
-ghost use Rattle.lp_table.specs.Texts.{distinct, has_text, place_of};
+ghost use Rattle.lp_text.specs.Texts.{distinct, has_text, place_of};
 
 use indexmap::IndexSet;
 use lp_text::{Bytes, NoMemory};
@@ -15,7 +15,7 @@ pub struct Table {
 
 impl Model for Table {
     ghost use Rattle.std.specs.Prelude.{List, ℕ, IsTrue, map};
-    ghost use Rattle.lp_table.specs.Texts.{distinct};
+    ghost use Rattle.lp_text.specs.Texts.{distinct};
 
     ghost Value = { List (List ℕ) };
 

@@ -1,3 +1,6 @@
 pub mod Memory
 pub mod Micros
+pub mod Numbers
+pub mod Places
 pub mod Shelf
+pub mod Texts

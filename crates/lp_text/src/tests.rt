@@ -2,7 +2,7 @@ ghost use Rattle.std.specs.Prelude.{◌≡◌, OnOk, IfSome, Some};
 ghost use Rattle.std.specs.FinMap.{insert};
 ghost use Rattle.lp_text.specs.Shelf.{content};
 
-use crate::{FileShelf, LIMIT, MemShelf, NeverFails, Shelf, ShelfFault, micros};
+use crate::{FileShelf, LIMIT, MemShelf, Names, NeverFails, Place, Shelf, ShelfFault, micros};
 use std::alloc::Global;
 use std::test::Fail;
 use std::{env, fs, process};
@@ -93,4 +93,27 @@ fn keeps_files(rt: HostRuntime) -> Result<(), Fail> {
     assert_eq!(rt; shelf.read(alloc, "/dev/zero"), Err(ShelfFault::TooLong));
     assert_eq!(rt; shelf.read(alloc, "/"), Err(ShelfFault::Failed), "a folder");
     Ok(())
+}
+
+#[test]
+fn names_keep_their_numbers(rt: HostRuntime) -> Result<(), Fail> {
+    let mut names = Names::new(rt.alloc())?;
+    let vdd = names.intern("VDD")?;
+    let empty = names.intern("")?;
+    assert_eq!(rt; names.intern("VDD")?, vdd);
+    assert_eq!(rt; names.count(), 2);
+    assert_eq!(rt; names.find(""), Some(empty));
+    assert_eq!(rt; names.find("VSS"), None);
+    assert!(rt; vdd.0 < names.count());
+    assert_eq!(rt; names.text(vdd), "VDD");
+    Ok(())
+}
+
+#[test]
+fn places_count_lines_and_bytes(rt: HostRuntime) {
+    let text = b"ab\n\nc";
+    assert_eq!(rt; Place::of(text, 0), Place { line: 1, column: 1 });
+    assert_eq!(rt; Place::of(text, 2), Place { line: 1, column: 3 });
+    assert_eq!(rt; Place::of(text, 3), Place { line: 2, column: 1 });
+    assert_eq!(rt; Place::of(text, 5), Place { line: 3, column: 2 });
 }

@@ -2,12 +2,12 @@
 use Rattle.std.proofs.Common.{◌≡◌, ℕ, ◌≤◌, ◌<◌, length, get_or, arith, List, [], ◌∷◌, Option, Some, None, ◌+◌, ◌^◌, inl, inr, refl, sym, ◌∙◌, subst}
 use Rattle.std.specs.Prelude.{Result, Ok, Err, IfOk}
 use Rattle.lp_text.specs.declared.memory.NoMemory.{NoMemory as Memory}
-use Rattle.lp_model.specs.declared.cell.Cell.{Cell}
-use Rattle.lp_model.specs.Liberty.{IsLibrary}
-use Rattle.lp_model.specs.declared.netlist.Module.{Module}
-use Rattle.lp_model.specs.declared.intent.Intent.{Intent}
-use Rattle.lp_model.specs.Verilog.{IsSource}
-use Rattle.lp_model.specs.Upf.{IsIntent}
+use Rattle.lp_small.specs.declared.cell.Cell.{Cell}
+use Rattle.lp_small.specs.Liberty.{IsLibrary}
+use Rattle.lp_small.specs.declared.netlist.Module.{Module}
+use Rattle.lp_small.specs.declared.intent.Intent.{Intent}
+use Rattle.lp_small.specs.Verilog.{IsSource}
+use Rattle.lp_small.specs.Upf.{IsIntent}
 use Rattle.lp_meaning.specs.Intent.{Design}
 use Rattle.lp_meaning.specs.Faults.{not_yet, Inputs, HasLoop, HasCells, ReadsBoth, FitsCells, ReadsAll, FirstFault, no_library, no_netlist, no_target, no_fit, no_intent, loop}
 use Rattle.lp_top.specs.Design.{inputs_of}

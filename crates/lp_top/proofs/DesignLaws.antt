@@ -1,13 +1,13 @@
 -- The texts of an accepted design keep their promises.
 use Rattle.std.proofs.Common.{◌≡◌, ℕ, List, map, refl, sym, subst}
 use Rattle.std.specs.Prelude.{IsTrue}
-use Rattle.lp_model.specs.declared.netlist.Module.{Module}
-use Rattle.lp_model.specs.declared.cell.Cell.{Cell}
-use Rattle.lp_model.specs.Names.{is_distinct}
-use Rattle.lp_model.specs.Liberty.{is_free_name, IsLibrary}
-use Rattle.lp_model.specs.Verilog.{Reads}
-use Rattle.lp_model.specs.Layout.{layout}
-use Rattle.lp_model.specs.WellFormed.{IsWellFormed}
+use Rattle.lp_small.specs.declared.netlist.Module.{Module}
+use Rattle.lp_small.specs.declared.cell.Cell.{Cell}
+use Rattle.lp_small.specs.Names.{is_distinct}
+use Rattle.lp_small.specs.Liberty.{is_free_name, IsLibrary}
+use Rattle.lp_small.specs.Verilog.{Reads}
+use Rattle.lp_small.specs.Layout.{layout}
+use Rattle.lp_small.specs.WellFormed.{IsWellFormed}
 use Rattle.lp_meaning.specs.Intent.{Design}
 use Rattle.lp_meaning.specs.Sound.{IsSound, IsOrdered}
 use Rattle.lp_meaning.specs.Faults.{Inputs, ReadsAll}

@@ -7,13 +7,13 @@ use Rattle.lp_top.specs.declared.design.Refusal.TheVariants as refusals
 use Rattle.lp_top.specs.declared.accepting.Accepted.{Accepted}
 use Rattle.lp_top.specs.Accepting.{OrFault, IsAccepted}
 use Rattle.lp_top.specs.Design.{GivesFault, GivesTexts}
-use Rattle.lp_model.specs.declared.cell.Cell.{Cell}
-use Rattle.lp_model.specs.declared.netlist.Module.{Module}
-use Rattle.lp_model.specs.declared.netlist.Instance.{Instance}
-use Rattle.lp_model.specs.declared.intent.Intent.{Intent}
-use Rattle.lp_model.specs.Liberty.{IsLibrary}
-use Rattle.lp_model.specs.Verilog.{Reads, IsSource}
-use Rattle.lp_model.specs.Upf.{IsIntent}
+use Rattle.lp_small.specs.declared.cell.Cell.{Cell}
+use Rattle.lp_small.specs.declared.netlist.Module.{Module}
+use Rattle.lp_small.specs.declared.netlist.Instance.{Instance}
+use Rattle.lp_small.specs.declared.intent.Intent.{Intent}
+use Rattle.lp_small.specs.Liberty.{IsLibrary}
+use Rattle.lp_small.specs.Verilog.{Reads, IsSource}
+use Rattle.lp_small.specs.Upf.{IsIntent}
 use Rattle.lp_meaning.specs.Intent.{Design}
 use Rattle.lp_meaning.specs.Faults.{Inputs, HasCells, Accepts, HasLoop, FirstFault, no_library, no_netlist, no_target, no_fit, no_intent, loop, not_yet, unknown_module, first_unknown, is_fit}
 

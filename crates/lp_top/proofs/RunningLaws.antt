@@ -9,13 +9,13 @@ use Rattle.std.proofs.lemmas.Bool.{both_ways}
 use Rattle.std.proofs.lemmas.Slice.Eq.{bytes_eq-Decides}
 use Rattle.lp_text.specs.declared.shelf.ShelfFault.{ShelfFault}
 use Rattle.lp_text.specs.Shelf.{Files, Faults, LAST, count_up, Rises, content, with_said, SayHolds}
-use Rattle.lp_model.specs.declared.cell.Cell.{Cell}
-use Rattle.lp_model.specs.declared.netlist.Module.{Module}
-use Rattle.lp_model.specs.declared.intent.Intent.{Intent}
-use Rattle.lp_model.specs.Liberty.{IsLibrary}
-use Rattle.lp_model.specs.Verilog.{Reads}
-use Rattle.lp_model.specs.Upf.{IsIntent}
-use Rattle.lp_model.specs.Names.{Name}
+use Rattle.lp_small.specs.declared.cell.Cell.{Cell}
+use Rattle.lp_small.specs.declared.netlist.Module.{Module}
+use Rattle.lp_small.specs.declared.intent.Intent.{Intent}
+use Rattle.lp_small.specs.Liberty.{IsLibrary}
+use Rattle.lp_small.specs.Verilog.{Reads}
+use Rattle.lp_small.specs.Upf.{IsIntent}
+use Rattle.lp_small.specs.Names.{Name}
 use Rattle.lp_top.proofs.FaultLaws.{one_fault, no_fault}
 use Rattle.lp_meaning.specs.Faults.{FirstFault}
 use Rattle.lp_meaning.specs.Promise.{HeadlineHolds}

@@ -1,12 +1,12 @@
 -- The stages of an insertion, each with the fault that is its own.
 use Rattle.std.specs.Prelude.{◌≡◌, ℕ, ◌⊎◌, true, false, List, [], ◌∷◌, Some, None, Result, Ok, Err}
 use Rattle.lp_text.specs.declared.memory.NoMemory.{NoMemory as Memory}
-use Rattle.lp_model.specs.declared.cell.Cell.{Cell}
-use Rattle.lp_model.specs.declared.netlist.Module.{Module}
-use Rattle.lp_model.specs.declared.netlist.Instance.{Instance}
-use Rattle.lp_model.specs.declared.intent.Intent.{Intent}
-use Rattle.lp_model.specs.Liberty.{IsLibrary}
-use Rattle.lp_model.specs.Upf.{IsIntent}
+use Rattle.lp_small.specs.declared.cell.Cell.{Cell}
+use Rattle.lp_small.specs.declared.netlist.Module.{Module}
+use Rattle.lp_small.specs.declared.netlist.Instance.{Instance}
+use Rattle.lp_small.specs.declared.intent.Intent.{Intent}
+use Rattle.lp_small.specs.Liberty.{IsLibrary}
+use Rattle.lp_small.specs.Upf.{IsIntent}
 use Rattle.lp_meaning.specs.Intent.{Design}
 use Rattle.lp_meaning.specs.Sound.{IsOrdered}
 use Rattle.lp_meaning.specs.Faults.{Inputs, HasLoop, Accepts, not_yet, unknown_module, first_unknown, is_fit}

@@ -2,7 +2,7 @@
 use Rattle.std.specs.Prelude.{◌≡◌, ℕ, ◌+◌, ◌≤◌, ◌<◌, ◌⊎◌, false, List, [], length, take, IsTrue, Option, Some, None, nat_le, slice_index_or, if◌then◌else◌}
 use Rattle.std.specs.Option.{option_map, IfSome}
 use Rattle.lp_text.specs.Shelf.{Files, Faults, LAST, count_up, Rises, content, with_file, with_said, ReadRises, WriteRises, LongRises}
-use Rattle.lp_model.specs.Names.{Name}
+use Rattle.lp_small.specs.Names.{Name}
 use Rattle.lp_meaning.specs.Faults.{FirstFault}
 use Rattle.lp_meaning.specs.Promise.{IsWritten, HeadlineHolds}
 use Rattle.lp_top.specs.declared.outcome.UsageFault.TheVariants.{Form, Files as Clash}

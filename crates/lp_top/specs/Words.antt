@@ -2,7 +2,7 @@
 use Rattle.std.specs.Prelude.{◌≡◌, Bool, ◌||◌, nat_lt, List, [], ◌∷◌, length, codes, IsTrue, bytes_eq, map, Option, Some, None, if◌then◌else◌}
 use Rattle.lp_text.specs.Shelf.{Files, content}
 use Rattle.lp_token.specs.Tokens.{is_filled}
-use Rattle.lp_model.specs.Names.{Name, has_name}
+use Rattle.lp_small.specs.Names.{Name, has_name}
 use Rattle.lp_meaning.specs.Faults.{Inputs}
 use Rattle.lp_top.specs.declared.words.Command.{Command}
 

@@ -1,6 +1,6 @@
 ghost use Rattle.std.specs.Prelude.{◌≡◌, ℕ, ◌≤◌, ◌^◌, List, length, map, IfOk, IsTrue};
-ghost use Rattle.lp_model.specs.Names.{is_distinct};
-ghost use Rattle.lp_model.specs.Layout.{layout};
+ghost use Rattle.lp_small.specs.Names.{is_distinct};
+ghost use Rattle.lp_small.specs.Layout.{layout};
 ghost use Rattle.lp_meaning.specs.Written.{powered, report_text};
 ghost use Rattle.lp_meaning.specs.Promise.{IsWritten, HeadlineHolds};
 ghost use Rattle.lp_meaning.specs.Faults.{FirstFault, Accepts};
@@ -13,7 +13,7 @@ use lp_liberty::one_library;
 use lp_meaning::{
     accepted_cells_differ, accepted_is_sound, headline as theorem, supplied, well_formed,
 };
-use lp_model::{Cell, Intent, Module};
+use lp_small::{Cell, Intent, Module};
 use lp_pg::connect_all;
 use lp_text::{Bytes, NoMemory};
 use lp_upf::one_intent;

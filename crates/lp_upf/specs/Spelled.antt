@@ -1,5 +1,5 @@
 -- What an intent whose names stand in its text denotes.
-use Rattle.lp_model.specs.declared.intent.Intent.{Intent}
+use Rattle.lp_small.specs.declared.intent.Intent.{Intent}
 use Rattle.lp_upf.specs.declared.spelled.Spelled.{Spelled}
 
 abbrev pub denoted : Spelled → Intent

@@ -1,13 +1,13 @@
 ghost use Rattle.std.specs.Prelude.{◌≡◌, IfOk, IfSome, Some, List, ℕ};
 ghost use Rattle.std.specs.Option.{option_map};
-ghost use Rattle.lp_model.specs.declared.intent.Intent.{Intent};
-ghost use Rattle.lp_model.specs.Upf.{IsIntent};
+ghost use Rattle.lp_small.specs.declared.intent.Intent.{Intent};
+ghost use Rattle.lp_small.specs.Upf.{IsIntent};
 ghost use Rattle.lp_upf.specs.Reading.{named_at, power_pieces, gnd_pieces, set_pieces, domain_pieces, state_pieces, voltage_at, spelled_at, intent_at};
 ghost use Rattle.lp_upf.specs.Spelled.{denoted};
 
 use crate::pieces::{before, expect, name_behind};
 use crate::spelled::Spelled;
-use lp_model::Intent;
+use lp_small::Intent;
 use lp_text::{LIMIT, NoMemory, micros_bytes};
 use std::alloc::Global;
 

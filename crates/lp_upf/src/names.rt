@@ -2,8 +2,8 @@ ghost use Rattle.std.specs.Prelude.{◌≡◌, ◌≤◌, length};
 ghost use Rattle.std.specs.List.{list_all, prefix_len};
 ghost use Rattle.std.specs.Option.{option_map};
 ghost use Rattle.lp_token.specs.Tokens.{is_letter, is_name_byte};
-ghost use Rattle.lp_model.specs.Names.{begins_with_letter};
-ghost use Rattle.lp_model.specs.Liberty.{is_free_name};
+ghost use Rattle.lp_small.specs.Names.{begins_with_letter};
+ghost use Rattle.lp_small.specs.Liberty.{is_free_name};
 ghost use Rattle.lp_upf.specs.Reading.{name_at};
 
 fn is_letter(b: u8) -> bool

@@ -1,7 +1,7 @@
 ghost use Rattle.std.specs.Prelude.{◌≡◌, IfOk};
 ghost use Rattle.lp_upf.specs.declared.spelled.Spelled.{Spelled};
 
-use lp_model::Intent;
+use lp_small::Intent;
 use lp_text::{Bytes, NoMemory};
 use std::alloc::Global;
 

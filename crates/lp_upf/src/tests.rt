@@ -1,5 +1,5 @@
 use super::*;
-use lp_model::Intent;
+use lp_small::Intent;
 use std::alloc::Global;
 use std::test::Fail;
 

@@ -5,14 +5,14 @@ use Rattle.std.specs.List.{list_all}
 use Rattle.std.proofs.lemmas.Bool.{and_parts, and_from, cases_Bool, cond-false, true≢false}
 use Rattle.std.proofs.lemmas.List.{append-nil}
 use Rattle.std.proofs.lemmas.List.Folds.{list_all-append, list_all-map}
-use Rattle.lp_table.specs.Texts.{same_text, has_text, distinct, same_text_comm, is_some-place_of, distinct-push, distinct-repeated, distinct-append_left}
+use Rattle.lp_text.specs.Texts.{same_text, has_text, distinct, same_text_comm, is_some-place_of, distinct-push, distinct-repeated, distinct-append_left}
 use Rattle.lp_token.specs.Reading.{◌>>=◌}
 use Rattle.lp_token.specs.Steps.{bind_some, test_some, some_same}
-use Rattle.lp_model.specs.declared.netlist.Port.{Port}
-use Rattle.lp_model.specs.declared.netlist.Instance.{Instance}
-use Rattle.lp_model.specs.declared.netlist.Module.{Module}
-use Rattle.lp_model.specs.Names.{Name, has_name, is_distinct}
-use Rattle.lp_model.specs.Verilog.{ModuleTree, IsDeclared, inputs_of, outputs_of, wires_of, all_among, instance_names, nets_of, port_of, module_of}
+use Rattle.lp_small.specs.declared.netlist.Port.{Port}
+use Rattle.lp_small.specs.declared.netlist.Instance.{Instance}
+use Rattle.lp_small.specs.declared.netlist.Module.{Module}
+use Rattle.lp_small.specs.Names.{Name, has_name, is_distinct}
+use Rattle.lp_small.specs.Verilog.{ModuleTree, IsDeclared, inputs_of, outputs_of, wires_of, all_among, instance_names, nets_of, port_of, module_of}
 use Rattle.lp_verilog.specs.declared.tree.Declared.{Declared}
 use Rattle.lp_verilog.specs.Checks.{added, is_in, are_in, port_in, ports_of, is_connected, are_connected, names_of, nets_at, netlist_of}
 use Rattle.lp_verilog.proofs.Whole.{declared_by, tree_of}

@@ -8,9 +8,9 @@ use Rattle.lp_token.specs.Tokens.{Token, Word, Mark, BeginsWith}
 use Rattle.lp_token.specs.Laws.{token_again}
 use Rattle.lp_token.specs.Reading.{◌>>=◌, behind_word, behind_mark, word_is, mark_is, word_at}
 use Rattle.lp_token.specs.Steps.{bind_some, test_some, some_same, word_at_found, word_at_again}
-use Rattle.lp_model.specs.Names.{Name, has_name, is_simple_name}
-use Rattle.lp_model.specs.Verilog.{reserved_words, is_identifier, keyword}
-use Rattle.lp_model.specs.Verilog as model
+use Rattle.lp_small.specs.Names.{Name, has_name, is_simple_name}
+use Rattle.lp_small.specs.Verilog.{reserved_words, is_identifier, keyword}
+use Rattle.lp_small.specs.Verilog as model
 use Rattle.lp_verilog.specs.declared.tree.Kind.{Kind}
 use Rattle.lp_verilog.specs.declared.tree.Kind.TheVariants.{Input, Output, Wire}
 use Rattle.lp_verilog.specs.Reading.{identifier_at, kind_named, kind_at, where_some, where_none}

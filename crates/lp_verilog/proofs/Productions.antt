@@ -8,11 +8,11 @@ use Rattle.lp_token.specs.Tokens.{Token, Word, Mark, BeginsWith, SpellsTo, separ
 use Rattle.lp_token.specs.Laws.{spells-append, spells-split, spells_fewer}
 use Rattle.lp_token.specs.Reading.{◌>>=◌, word_is, mark_is}
 use Rattle.lp_token.specs.Steps.{bind_some, some_same, mark_is_found, mark_is_again}
-use Rattle.lp_model.specs.declared.netlist.Connection.{Connection}
-use Rattle.lp_model.specs.declared.netlist.Instance.{Instance}
-use Rattle.lp_model.specs.Names.{Name}
-use Rattle.lp_model.specs.Verilog.{is_identifier, is_connection, is_instance, is_declaration, keyword, name_list, declaration_tokens, connection_tokens, instance_tokens}
-use Rattle.lp_model.specs.Verilog as model
+use Rattle.lp_small.specs.declared.netlist.Connection.{Connection}
+use Rattle.lp_small.specs.declared.netlist.Instance.{Instance}
+use Rattle.lp_small.specs.Names.{Name}
+use Rattle.lp_small.specs.Verilog.{is_identifier, is_connection, is_instance, is_declaration, keyword, name_list, declaration_tokens, connection_tokens, instance_tokens}
+use Rattle.lp_small.specs.Verilog as model
 use Rattle.lp_verilog.specs.declared.tree.Declaration.{Declaration}
 use Rattle.lp_verilog.specs.Reading.{many, gathered, push, where_some, identifier_at, next_name, names_at, kind_at, declared_names_at, next_declaration, connection_at, next_connection, connections_at, instance_at, next_instance}
 use Rattle.lp_verilog.proofs.Pieces.{other_mark, other_word, reserved_apart, identifier_found, identifier_again, shown_kind, kind_found, kind_again, where_some_found, where_none_found}

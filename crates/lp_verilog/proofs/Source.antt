@@ -5,12 +5,12 @@ use Rattle.std.specs.List.{list_all}
 use Rattle.std.proofs.lemmas.List.Folds.{list_all-append, list_all-map}
 use Rattle.lp_token.specs.Reading.{◌>>=◌}
 use Rattle.lp_token.specs.Steps.{bind_some, test_some}
-use Rattle.lp_model.specs.declared.netlist.Port.{Port}
-use Rattle.lp_model.specs.declared.netlist.Connection.{Connection}
-use Rattle.lp_model.specs.declared.netlist.Instance.{Instance}
-use Rattle.lp_model.specs.declared.netlist.Module.{Module}
-use Rattle.lp_model.specs.Names.{is_reserved}
-use Rattle.lp_model.specs.Verilog.{Reads, IsSource, is_free, names_in_instance, port_names}
+use Rattle.lp_small.specs.declared.netlist.Port.{Port}
+use Rattle.lp_small.specs.declared.netlist.Connection.{Connection}
+use Rattle.lp_small.specs.declared.netlist.Instance.{Instance}
+use Rattle.lp_small.specs.declared.netlist.Module.{Module}
+use Rattle.lp_small.specs.Names.{is_reserved}
+use Rattle.lp_small.specs.Verilog.{Reads, IsSource, is_free, names_in_instance, port_names}
 use Rattle.lp_verilog.specs.Reading.{module_at}
 use Rattle.lp_verilog.specs.Checks.{netlist_of, is_free_name, is_free_connection, is_free_instance, is_free_module, source_at}
 use Rattle.lp_verilog.proofs.Whole.{tree_of, IsModule, module_found, module_again}

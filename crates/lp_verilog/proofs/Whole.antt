@@ -10,10 +10,10 @@ use Rattle.lp_token.specs.Tokens.{Token, Word, Mark, BeginsWith, SpellsTo, Spell
 use Rattle.lp_token.specs.Laws.{spells-append, spells-split}
 use Rattle.lp_token.specs.Reading.{word_is, mark_is, is_blank_text}
 use Rattle.lp_token.specs.Steps.{bind_some, test_some, some_same, word_is_found, word_is_again, mark_is_found, mark_is_again}
-use Rattle.lp_model.specs.declared.netlist.Instance.{Instance}
-use Rattle.lp_model.specs.Names.{Name}
-use Rattle.lp_model.specs.Verilog.{ModuleTree, is_identifier, is_connection, is_instance, is_declaration, is_spelled, name_list, declaration_tokens, instance_tokens, module_tokens, declared, inputs_of, outputs_of, wires_of}
-use Rattle.lp_model.specs.Verilog as model
+use Rattle.lp_small.specs.declared.netlist.Instance.{Instance}
+use Rattle.lp_small.specs.Names.{Name}
+use Rattle.lp_small.specs.Verilog.{ModuleTree, is_identifier, is_connection, is_instance, is_declaration, is_spelled, name_list, declaration_tokens, instance_tokens, module_tokens, declared, inputs_of, outputs_of, wires_of}
+use Rattle.lp_small.specs.Verilog as model
 use Rattle.lp_verilog.specs.declared.tree.Kind.{Kind}
 use Rattle.lp_verilog.specs.declared.tree.Kind.TheVariants.{Input, Output, Wire}
 use Rattle.lp_verilog.specs.declared.tree.Declaration.{Declaration}

@@ -1,14 +1,14 @@
 -- From the names that were read to the netlist: which names stand where, in the order in which they are looked up.
 use Rattle.std.specs.Prelude.{ℕ, Bool, not, ◌&&◌, List, [], ◌∷◌, ◌++◌, map, Option, Some, None, is_some, if◌then◌else◌}
 use Rattle.std.specs.List.{list_all}
-use Rattle.lp_table.specs.Texts.{has_text, place_of}
+use Rattle.lp_text.specs.Texts.{has_text, place_of}
 use Rattle.lp_token.specs.Reading.{◌>>=◌}
-use Rattle.lp_model.specs.declared.netlist.Direction.TheVariants.{Input, Output}
-use Rattle.lp_model.specs.declared.netlist.Port.{Port}
-use Rattle.lp_model.specs.declared.netlist.Connection.{Connection}
-use Rattle.lp_model.specs.declared.netlist.Instance.{Instance}
-use Rattle.lp_model.specs.declared.netlist.Module.{Module}
-use Rattle.lp_model.specs.Names.{Name, is_reserved}
+use Rattle.lp_small.specs.declared.netlist.Direction.TheVariants.{Input, Output}
+use Rattle.lp_small.specs.declared.netlist.Port.{Port}
+use Rattle.lp_small.specs.declared.netlist.Connection.{Connection}
+use Rattle.lp_small.specs.declared.netlist.Instance.{Instance}
+use Rattle.lp_small.specs.declared.netlist.Module.{Module}
+use Rattle.lp_small.specs.Names.{Name, is_reserved}
 use Rattle.lp_verilog.specs.declared.tree.Declared.{Declared}
 use Rattle.lp_verilog.specs.declared.tree.Tree.{Tree}
 use Rattle.lp_verilog.specs.Reading.{module_at}

@@ -3,10 +3,10 @@ use Rattle.std.specs.Prelude.{ℕ, zero, suc, List, [], ◌∷◌, ◌++◌, len
 use Rattle.std.specs.List.{fold}
 use Rattle.lp_token.specs.declared.token.Language.TheVariants.{Verilog}
 use Rattle.lp_token.specs.Reading.{◌>>=◌, word_is, mark_is, word_at, is_blank_text}
-use Rattle.lp_model.specs.declared.netlist.Connection.{Connection}
-use Rattle.lp_model.specs.declared.netlist.Instance.{Instance}
-use Rattle.lp_model.specs.Names.{Name}
-use Rattle.lp_model.specs.Verilog.{is_identifier}
+use Rattle.lp_small.specs.declared.netlist.Connection.{Connection}
+use Rattle.lp_small.specs.declared.netlist.Instance.{Instance}
+use Rattle.lp_small.specs.Names.{Name}
+use Rattle.lp_small.specs.Verilog.{is_identifier}
 use Rattle.lp_verilog.specs.declared.tree.Kind.{Kind}
 use Rattle.lp_verilog.specs.declared.tree.Kind.TheVariants.{Input, Output, Wire}
 use Rattle.lp_verilog.specs.declared.tree.Declaration.{Declaration}

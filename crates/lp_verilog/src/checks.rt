@@ -4,7 +4,7 @@ ghost use Rattle.lp_verilog.specs.Checks.{added, is_in, are_in, port_in, ports_o
 
 use crate::fault::ReadError;
 use crate::tree::{Declared, Header, Tree};
-use lp_model::{Direction, Instance, Module, Port};
+use lp_small::{Direction, Instance, Module, Port};
 use lp_table::Table;
 use lp_text::{Bytes, NoMemory};
 use sqlite_items::Items;

@@ -2,7 +2,7 @@ ghost use Rattle.std.specs.Prelude.{◌≡◌};
 ghost use Rattle.std.specs.List.{list_all};
 ghost use Rattle.lp_verilog.specs.Checks.{is_free_name, is_free_connection, is_free_instance, is_free_module};
 
-use lp_model::{Connection, Instance, Module, Port};
+use lp_small::{Connection, Instance, Module, Port};
 use lp_text::Bytes;
 
 // Whether a name is none of the tool's own.

@@ -5,7 +5,7 @@ ghost use Rattle.lp_verilog.specs.Reading.{connection_at, next_connection, conne
 
 use crate::fault::ReadError;
 use crate::names::{identifier, mark};
-use lp_model::{Connection, Instance};
+use lp_small::{Connection, Instance};
 use lp_token::{Language, expect_mark, expect_word};
 use sqlite_items::Items;
 use std::alloc::Global;

@@ -1,6 +1,6 @@
 ghost use Rattle.std.specs.Prelude.{◌≡◌, ℕ, List};
-ghost use Rattle.lp_model.specs.declared.netlist.Module.{Module};
-ghost use Rattle.lp_model.specs.Verilog.{Reads};
+ghost use Rattle.lp_small.specs.declared.netlist.Module.{Module};
+ghost use Rattle.lp_small.specs.Verilog.{Reads};
 
 /// Each text denotes at most one netlist.
 pub fn one_netlist()

@@ -1,4 +1,4 @@
-//! Reads a structural Verilog netlist of one module, in the subset that the grammar of `lp_model` has.
+//! Reads a structural Verilog netlist of one module, in the subset that the grammar of `lp_small` has.
 #![tactic(auto)]
 
 mod checks;

@@ -1,6 +1,6 @@
 ghost use Rattle.std.specs.Prelude.{◌≡◌, Some, IfOk, IfSome};
-ghost use Rattle.lp_model.specs.declared.netlist.Module as model;
-ghost use Rattle.lp_model.specs.Verilog.{IsSource};
+ghost use Rattle.lp_small.specs.declared.netlist.Module as model;
+ghost use Rattle.lp_small.specs.Verilog.{IsSource};
 ghost use Rattle.lp_verilog.specs.Gives.{Gives};
 ghost use Rattle.lp_verilog.specs.Checks.{source_at};
 
@@ -8,7 +8,7 @@ use crate::checks::netlist_of;
 use crate::fault::ReadError;
 use crate::free::is_free_module;
 use crate::header::read_tree;
-use lp_model::Module;
+use lp_small::Module;
 use lp_text::{LIMIT, NoMemory};
 use std::alloc::Global;
 

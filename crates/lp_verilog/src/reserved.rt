@@ -1,8 +1,8 @@
 ghost use Rattle.std.specs.Prelude.{◌≡◌, bytes_eq};
 ghost use Rattle.std.specs.List.{list_all, list_any};
 ghost use Rattle.lp_token.specs.Tokens.{is_letter, is_name_byte};
-ghost use Rattle.lp_model.specs.Names.{has_name, begins_with_letter};
-ghost use Rattle.lp_model.specs.Verilog.{reserved_words, is_identifier};
+ghost use Rattle.lp_small.specs.Names.{has_name, begins_with_letter};
+ghost use Rattle.lp_small.specs.Verilog.{reserved_words, is_identifier};
 ghost use Rattle.lp_verilog.specs.Reserved.{is_lower, begins_lower};
 
 // The reserved words of IEEE 1364-2005, annex B.

@@ -1,5 +1,5 @@
 use crate::read_netlist;
-use lp_model::Direction;
+use lp_small::Direction;
 use std::alloc::Global;
 use std::test::Fail;
 

@@ -1,4 +1,4 @@
-use lp_model::Instance;
+use lp_small::Instance;
 use lp_text::Bytes;
 use sqlite_items::Items;
 

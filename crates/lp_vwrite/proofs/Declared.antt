@@ -7,13 +7,13 @@ use Rattle.std.proofs.lemmas.List.{append-nil}
 use Rattle.std.proofs.lemmas.List.Concat.{flat_map-append}
 use Rattle.std.proofs.lemmas.List.Folds.{list_all-append}
 use Rattle.lp_token.specs.Tokens.{is_filled}
-use Rattle.lp_model.specs.declared.netlist.Direction.{Direction}
-use Rattle.lp_model.specs.declared.netlist.Direction.TheVariants.{Input, Output}
-use Rattle.lp_model.specs.declared.netlist.Port.{Port}
-use Rattle.lp_model.specs.declared.netlist.Module.{Module}
-use Rattle.lp_model.specs.Names.{Name, has_name, is_distinct}
-use Rattle.lp_model.specs.Verilog.{Kind, InputPort, OutputPort, Wire, Declaration, declared, is_kind, inputs_of, outputs_of, wires_of, port_of, module_of, port_names, is_identifier, is_declaration, is_instance, is_spelled, IsDeclared, instance_names}
-use Rattle.lp_model.specs.WellFormed.{IsWellFormed}
+use Rattle.lp_small.specs.declared.netlist.Direction.{Direction}
+use Rattle.lp_small.specs.declared.netlist.Direction.TheVariants.{Input, Output}
+use Rattle.lp_small.specs.declared.netlist.Port.{Port}
+use Rattle.lp_small.specs.declared.netlist.Module.{Module}
+use Rattle.lp_small.specs.Names.{Name, has_name, is_distinct}
+use Rattle.lp_small.specs.Verilog.{Kind, InputPort, OutputPort, Wire, Declaration, declared, is_kind, inputs_of, outputs_of, wires_of, port_of, module_of, port_names, is_identifier, is_declaration, is_instance, is_spelled, IsDeclared, instance_names}
+use Rattle.lp_small.specs.WellFormed.{IsWellFormed}
 use Rattle.lp_vwrite.proofs.Names.{same_name, other_name, has_name-append, among_same, distinct_front, distinct_insert}
 use Rattle.lp_vwrite.proofs.Tree.{port_declaration, wire_declaration, written, tree}
 

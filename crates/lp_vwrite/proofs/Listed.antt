@@ -3,7 +3,7 @@ use Rattle.std.proofs.Common.{◌≡◌, ℕ, ◌-◌, ◌≤◌, List, [], ◌�
 use Rattle.std.specs.Prelude.{codes}
 use Rattle.std.specs.List.{flat_map}
 use Rattle.std.proofs.lemmas.List.{append-nil, take_rest}
-use Rattle.lp_model.specs.Layout.{listed}
+use Rattle.lp_small.specs.Layout.{listed}
 use Rattle.lp_vwrite.specs.Lines.{after_comma}
 
 pub listed_cons : {A : Type 0} (f : A → List ℕ) (x : A) (xs : List A) → listed f (x ∷ xs) ≡ f x ++ flat_map (after_comma f) xs

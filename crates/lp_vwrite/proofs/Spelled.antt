@@ -8,16 +8,16 @@ use Rattle.std.proofs.lemmas.List.Folds.{list_all-append, list_all-map}
 use Rattle.lp_token.specs.declared.token.Language.TheVariants.{Verilog}
 use Rattle.lp_token.specs.Tokens.{Token, Word, Mark, Spells, class_of, is_blank, is_inner, is_token, is_apart, is_filled, separated, is_name_byte}
 use Rattle.lp_token.specs.Laws.{word_begins, mark_begins, begins_behind, name_inner}
-use Rattle.lp_model.specs.declared.netlist.Direction.{Direction}
-use Rattle.lp_model.specs.declared.netlist.Direction.TheVariants.{Input, Output}
-use Rattle.lp_model.specs.declared.netlist.Port.{Port}
-use Rattle.lp_model.specs.declared.netlist.Connection.{Connection}
-use Rattle.lp_model.specs.declared.netlist.Instance.{Instance}
-use Rattle.lp_model.specs.declared.netlist.Module.{Module}
-use Rattle.lp_model.specs.Names.{Name, begins_with_letter, is_simple_name, has_name}
-use Rattle.lp_model.specs.Verilog.{Kind, is_identifier, InputPort, OutputPort, is_connection, is_instance, declaration_tokens, connection_tokens, instance_tokens, module_tokens, name_list, port_names, reserved_words, keyword, Wire}
-use Rattle.lp_model.specs.Layout.{listed, port_line, wire_line, connection_text, instance_line, header_line, layout}
-use Rattle.lp_model.specs.WellFormed.{IsWellFormed}
+use Rattle.lp_small.specs.declared.netlist.Direction.{Direction}
+use Rattle.lp_small.specs.declared.netlist.Direction.TheVariants.{Input, Output}
+use Rattle.lp_small.specs.declared.netlist.Port.{Port}
+use Rattle.lp_small.specs.declared.netlist.Connection.{Connection}
+use Rattle.lp_small.specs.declared.netlist.Instance.{Instance}
+use Rattle.lp_small.specs.declared.netlist.Module.{Module}
+use Rattle.lp_small.specs.Names.{Name, begins_with_letter, is_simple_name, has_name}
+use Rattle.lp_small.specs.Verilog.{Kind, is_identifier, InputPort, OutputPort, is_connection, is_instance, declaration_tokens, connection_tokens, instance_tokens, module_tokens, name_list, port_names, reserved_words, keyword, Wire}
+use Rattle.lp_small.specs.Layout.{listed, port_line, wire_line, connection_text, instance_line, header_line, layout}
+use Rattle.lp_small.specs.WellFormed.{IsWellFormed}
 use Rattle.lp_vwrite.proofs.Tree.{port_declaration, wire_declaration, tree}
 
 -- ---- one token

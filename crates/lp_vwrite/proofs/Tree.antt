@@ -1,11 +1,11 @@
 -- The module that stands in a written text: a declaration for each port, and then one for each wire.
 use Rattle.std.proofs.Common.{List, [], ◌∷◌, ◌++◌, map}
-use Rattle.lp_model.specs.declared.netlist.Direction.{Direction}
-use Rattle.lp_model.specs.declared.netlist.Direction.TheVariants.{Input, Output}
-use Rattle.lp_model.specs.declared.netlist.Port.{Port}
-use Rattle.lp_model.specs.declared.netlist.Module.{Module}
-use Rattle.lp_model.specs.Names.{Name}
-use Rattle.lp_model.specs.Verilog.{Kind, InputPort, OutputPort, Wire, Declaration, ModuleTree, port_names}
+use Rattle.lp_small.specs.declared.netlist.Direction.{Direction}
+use Rattle.lp_small.specs.declared.netlist.Direction.TheVariants.{Input, Output}
+use Rattle.lp_small.specs.declared.netlist.Port.{Port}
+use Rattle.lp_small.specs.declared.netlist.Module.{Module}
+use Rattle.lp_small.specs.Names.{Name}
+use Rattle.lp_small.specs.Verilog.{Kind, InputPort, OutputPort, Wire, Declaration, ModuleTree, port_names}
 
 abbrev pub kind_of : Direction → Kind
 kind_of Input = InputPort

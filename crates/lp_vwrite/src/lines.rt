@@ -1,8 +1,8 @@
 ghost use Rattle.std.specs.Prelude.{◌≡◌, ◌++◌, flat_map, OnOk};
-ghost use Rattle.lp_model.specs.Layout.{listed, port_line, wire_line, connection_text, instance_line};
+ghost use Rattle.lp_small.specs.Layout.{listed, port_line, wire_line, connection_text, instance_line};
 ghost use Rattle.lp_vwrite.specs.Lines.{after_comma};
 
-use lp_model::{Connection, Direction, Instance, Port};
+use lp_small::{Connection, Direction, Instance, Port};
 use lp_text::{Bytes, NoMemory};
 
 fn put_more_names(out: &mut Vec<u8>, ports: &[Port]) -> Result<(), NoMemory>

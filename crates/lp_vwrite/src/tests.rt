@@ -1,5 +1,5 @@
 use crate::write_netlist;
-use lp_model::{Connection, Direction, Instance, Module, Port};
+use lp_small::{Connection, Direction, Instance, Module, Port};
 use lp_text::{Bytes, NoMemory};
 use sqlite_items::Items;
 use std::alloc::Global;

@@ -1,8 +1,8 @@
 ghost use Rattle.std.specs.Prelude.{◌≡◌, ◌++◌, flat_map, IfOk, OnOk};
-ghost use Rattle.lp_model.specs.Layout.{header_line, port_line, wire_line, instance_line, layout};
+ghost use Rattle.lp_small.specs.Layout.{header_line, port_line, wire_line, instance_line, layout};
 
 use crate::lines::{put_instance, put_port, put_port_names, put_wire};
-use lp_model::{Instance, Module, Port};
+use lp_small::{Instance, Module, Port};
 use lp_text::{Bytes, NoMemory};
 use std::alloc::Global;
 
@@ -45,7 +45,7 @@ fn put_instances(out: &mut Vec<u8>, instances: &[Instance]) -> Result<(), NoMemo
 }
 
 /// The text of a netlist: two blanks before each item, one item a line.
-#[tactic(auto, unfolding(lp_model::specs::Layout::layout))]
+#[tactic(auto, unfolding(lp_small::specs::Layout::layout))]
 pub fn write_netlist(alloc: Global, m: &Module) -> Result<Vec<u8>, NoMemory>
     ensures { IfOk result (λ v. v.items ≡ layout m.now) }
 {

@@ -2,7 +2,7 @@ use Rattle.std.proofs.Common.{sym, ◌∙◌, map, rules, tests}
 use Rattle.std.proofs.lemmas.Iterator.{YieldsList-from_slice}
 use Rattle.std.proofs.lemmas.Iterator.Search.{all_from_yields_List}
 use Rattle.std.proofs.lemmas.List.Folds.{list_all-map}
-use Rattle.lp_model.specs.Names.{has_name}
+use Rattle.lp_small.specs.Names.{has_name}
 use Rattle.lp_hier.proofs.joined.connects_all.Goals as goal
 
 pub returns : goal.returns

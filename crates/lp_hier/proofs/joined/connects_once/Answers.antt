@@ -1,5 +1,5 @@
 use Rattle.std.proofs.Common.{◌≡◌, true, false, map, take, get_or, sym, ap, ◌∙◌, arith}
-use Rattle.lp_model.specs.Names.{has_name}
+use Rattle.lp_small.specs.Names.{has_name}
 use Rattle.lp_cells.specs.NameLaws.{has_name-text}
 use Rattle.lp_hier.proofs.Scans.{repeats, stays_distinct}
 use Rattle.lp_hier.proofs.joined.connects_once.Goals as goal

@@ -1,5 +1,5 @@
 use Rattle.std.proofs.Common.{◌≡◌, true, map, take}
-use Rattle.lp_model.specs.Names.{is_distinct}
+use Rattle.lp_small.specs.Names.{is_distinct}
 use Rattle.lp_hier.proofs.joined.connects_once.Given as goal
 
 abbrev pub invariant-loop-place : goal.invariant-loop-place

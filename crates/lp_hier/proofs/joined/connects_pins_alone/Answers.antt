@@ -2,8 +2,8 @@ use Rattle.std.proofs.Common.{sym, ◌∙◌, rules, tests}
 use Rattle.std.proofs.lemmas.Iterator.{YieldsList-from_slice}
 use Rattle.std.proofs.lemmas.Iterator.Search.{all_from_yields_List}
 use Rattle.std.proofs.lemmas.List.Folds.{list_all-map}
-use Rattle.lp_model.specs.Names.{has_name}
-use Rattle.lp_model.specs.Liberty.{pin_names}
+use Rattle.lp_small.specs.Names.{has_name}
+use Rattle.lp_small.specs.Liberty.{pin_names}
 use Rattle.lp_hier.proofs.joined.connects_pins_alone.Goals as goal
 
 pub returns : goal.returns

@@ -1,6 +1,6 @@
 use Rattle.std.proofs.Common.{◌≡◌, true, map, take, get_or, sym, ap, ◌∙◌, arith}
 use Rattle.std.proofs.lemmas.List.{take_all}
-use Rattle.lp_table.specs.Texts.{has_text, distinct}
+use Rattle.lp_text.specs.Texts.{has_text, distinct}
 use Rattle.lp_hier.proofs.Scans.{true-from_not}
 use Rattle.lp_cells.specs.NameLaws.{is_distinct-text}
 use Rattle.lp_hier.proofs.Scans.{repeats}

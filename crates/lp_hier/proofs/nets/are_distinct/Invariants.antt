@@ -1,6 +1,6 @@
 use Rattle.std.proofs.Common.{◌≡◌, map, take}
 use Rattle.std.specs.Prelude.{IsTrue}
-use Rattle.lp_table.specs.Texts.{distinct}
+use Rattle.lp_text.specs.Texts.{distinct}
 use Rattle.lp_hier.proofs.nets.are_distinct.Given as goal
 
 abbrev pub invariant-loop-net : goal.invariant-loop-net

@@ -1,5 +1,5 @@
 use Rattle.std.proofs.Common.{◌≡◌, ℕ, List, Some, refl, subst, ◌∙◌}
-use Rattle.lp_model.specs.Liberty.{power_down_text}
+use Rattle.lp_small.specs.Liberty.{power_down_text}
 use Rattle.lp_liberty.specs.Reading.{pins_at, cell_at}
 use Rattle.lp_liberty.proofs.cell.cell.Goals as goal
 

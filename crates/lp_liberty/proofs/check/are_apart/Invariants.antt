@@ -1,5 +1,5 @@
 use Rattle.std.proofs.Common.{◌≡◌, [], ◌∷◌, drop}
-use Rattle.lp_model.specs.Liberty.{pin_names}
+use Rattle.lp_small.specs.Liberty.{pin_names}
 use Rattle.lp_liberty.specs.Reading.{fresh}
 use Rattle.lp_liberty.proofs.check.are_apart.Given as goal
 

@@ -1,6 +1,6 @@
 use Rattle.std.proofs.Common.{◌≡◌, drop}
 use Rattle.std.specs.List.{list_all}
-use Rattle.lp_model.specs.Liberty.{is_free_name, pin_names}
+use Rattle.lp_small.specs.Liberty.{is_free_name, pin_names}
 use Rattle.lp_liberty.proofs.check.are_free.Given as goal
 
 abbrev pub invariant-loop-pin : goal.invariant-loop-pin

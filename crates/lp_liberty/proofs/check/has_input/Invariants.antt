@@ -1,6 +1,6 @@
 use Rattle.std.proofs.Common.{◌≡◌, drop}
-use Rattle.lp_model.specs.Names.{has_name}
-use Rattle.lp_model.specs.Liberty.{input_names}
+use Rattle.lp_small.specs.Names.{has_name}
+use Rattle.lp_small.specs.Liberty.{input_names}
 use Rattle.lp_liberty.proofs.check.has_input.Given as goal
 
 abbrev pub invariant-loop-pin : goal.invariant-loop-pin

@@ -1,6 +1,6 @@
 use Rattle.std.proofs.Common.{[], ap, sym, ◌∙◌}
 use Rattle.std.specs.Prelude.{map}
-use Rattle.lp_model.specs.Verilog.{port_names}
+use Rattle.lp_small.specs.Verilog.{port_names}
 use Rattle.lp_cells.specs.NameLaws.{is_distinct-text}
 use Rattle.lp_paths.specs.Sources.{net_names, add_texts}
 use Rattle.lp_paths.proofs.Noting.{add_texts-append, add_texts-distinct}

@@ -1,5 +1,5 @@
 use Rattle.std.proofs.Common.{arith, sym}
-use Rattle.lp_table.specs.Texts.{place_of-Some}
+use Rattle.lp_text.specs.Texts.{place_of-Some}
 use Rattle.lp_paths.proofs.sources.note.Goals as goal
 
 pub bounds-found-place : goal.bounds-found-place

@@ -1,7 +1,7 @@
 use Rattle.std.proofs.Common.{◌≡◌, [], get_or, true, sym, ◌∙◌, arith}
 use Rattle.std.proofs.lemmas.List.{get_or_read}
-use Rattle.lp_table.specs.Texts.{has_text}
-use Rattle.lp_table.proofs.TableLemmas.{distinct-take_repeated, true-from_not}
+use Rattle.lp_text.specs.Texts.{has_text}
+use Rattle.lp_text.proofs.TextsLemmas.{distinct-take_repeated, true-from_not}
 use Rattle.lp_table.proofs.table.all_distinct.Goals as goal
 
 pub returns-then-not-branch : goal.returns-then-not-branch

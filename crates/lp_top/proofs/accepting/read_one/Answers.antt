@@ -1,4 +1,4 @@
-use Rattle.lp_model.specs.Liberty.{IsLibrary}
+use Rattle.lp_small.specs.Liberty.{IsLibrary}
 use Rattle.lp_top.proofs.AcceptingLaws.{nothing-denoted, none-denoted}
 use Rattle.lp_top.proofs.accepting.read_one.Goals as goal
 

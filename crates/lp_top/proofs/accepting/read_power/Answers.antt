@@ -1,4 +1,4 @@
-use Rattle.lp_model.specs.Upf.{IsIntent}
+use Rattle.lp_small.specs.Upf.{IsIntent}
 use Rattle.lp_top.proofs.AcceptingLaws.{nothing-denoted, none-denoted}
 use Rattle.lp_top.proofs.accepting.read_power.Goals as goal
 

@@ -1,4 +1,4 @@
-use Rattle.lp_model.specs.Verilog.{IsSource}
+use Rattle.lp_small.specs.Verilog.{IsSource}
 use Rattle.lp_top.proofs.AcceptingLaws.{nothing-denoted, none-denoted}
 use Rattle.lp_top.proofs.accepting.read_source.Goals as goal
 

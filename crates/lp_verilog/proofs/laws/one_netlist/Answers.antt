@@ -1,8 +1,8 @@
 use Rattle.std.proofs.Common.{◌≡◌, ◌∙◌, sym, ap}
 use Rattle.lp_token.specs.Steps.{some_same}
-use Rattle.lp_model.specs.Verilog.{port_of}
+use Rattle.lp_small.specs.Verilog.{port_of}
 use Rattle.lp_verilog.specs.declared.tree.Tree.{Tree}
-use Rattle.lp_model.specs.declared.netlist.Module.{Module}
+use Rattle.lp_small.specs.declared.netlist.Module.{Module}
 use Rattle.std.specs.Prelude.{map}
 use Rattle.lp_verilog.proofs.Whole.{tree_of, module_again, IsModule}
 use Rattle.lp_verilog.proofs.laws.one_netlist.Goals as goal

@@ -1,6 +1,6 @@
 use Rattle.std.proofs.Common.{arith}
 use Rattle.std.proofs.lemmas.Grind.{common_steps}
-use Rattle.lp_model.specs.Layout.{connection_text}
+use Rattle.lp_small.specs.Layout.{connection_text}
 use Rattle.lp_vwrite.proofs.Listed.{listed_split}
 use Rattle.lp_vwrite.proofs.lines.put_connections.Goals as goal
 

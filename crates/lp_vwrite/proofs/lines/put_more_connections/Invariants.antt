@@ -1,6 +1,6 @@
 use Rattle.std.proofs.Common.{◌≡◌, ◌++◌, take}
 use Rattle.std.specs.List.{flat_map}
-use Rattle.lp_model.specs.Layout.{connection_text}
+use Rattle.lp_small.specs.Layout.{connection_text}
 use Rattle.lp_vwrite.specs.Lines.{after_comma}
 use Rattle.lp_vwrite.proofs.lines.put_more_connections.Given as goal
 

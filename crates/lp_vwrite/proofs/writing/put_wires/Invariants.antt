@@ -1,6 +1,6 @@
 use Rattle.std.proofs.Common.{◌≡◌, ◌++◌, take}
 use Rattle.std.specs.List.{flat_map}
-use Rattle.lp_model.specs.Layout.{wire_line}
+use Rattle.lp_small.specs.Layout.{wire_line}
 use Rattle.lp_vwrite.proofs.writing.put_wires.Given as goal
 
 abbrev pub invariant-loop-wire : goal.invariant-loop-wire

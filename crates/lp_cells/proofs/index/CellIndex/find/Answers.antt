@@ -1,6 +1,6 @@
 use Rattle.std.proofs.Common.{◌≡◌, ap, sym, ◌∙◌}
 use Rattle.std.specs.Option.{option_copied}
-use Rattle.lp_table.specs.Texts.{place_of}
+use Rattle.lp_text.specs.Texts.{place_of}
 use Rattle.lp_meaning.specs.Graph.{cell_named}
 use Rattle.lp_cells.proofs.CellLemmas.{cell_named-Some, cell_named-None}
 use Rattle.lp_cells.proofs.index.CellIndex.find.Goals as goal

@@ -1,5 +1,5 @@
 use Rattle.std.proofs.Common.{◌≡◌, ◌++◌, ◌∷◌, [], not, cond, take, ap, ◌∙◌, arith, get_or, false}
-use Rattle.lp_table.specs.Texts.{has_text}
+use Rattle.lp_text.specs.Texts.{has_text}
 use Rattle.lp_cells.proofs.CellLemmas.{names, name-new, names-next}
 use Rattle.lp_cells.proofs.index.CellIndex.new.Goals as goal
 

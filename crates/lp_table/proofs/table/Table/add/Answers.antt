@@ -1,8 +1,8 @@
 use Rattle.std.proofs.Common.{◌≡◌, true, false, not, cond, [], ◌∷◌, ◌++◌, sym, ap, ◌∙◌, refl}
 use Rattle.std.specs.Prelude.{map, IsTrue}
 use Rattle.std.proofs.lemmas.List.{map_push}
-use Rattle.lp_table.specs.Texts.{has_text, distinct, distinct-push}
-use Rattle.lp_table.proofs.TableLemmas.{has_text-map, OnErr-always}
+use Rattle.lp_text.specs.Texts.{has_text, distinct, distinct-push}
+use Rattle.lp_text.proofs.TextsLemmas.{has_text-map, OnErr-always}
 use Rattle.lp_table.proofs.table.Table.add.Goals as goal
 use Rattle.lp_table.proofs.table.Table.add.Goals.{After-contains, Else-contains, In_ok-insert}
 

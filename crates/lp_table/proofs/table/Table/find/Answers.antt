@@ -1,6 +1,6 @@
 use Rattle.std.proofs.Common.{◌∙◌, ap}
-use Rattle.lp_table.specs.Texts.{place_of}
-use Rattle.lp_table.proofs.TableLemmas.{position-map}
+use Rattle.lp_text.specs.Texts.{place_of}
+use Rattle.lp_text.proofs.TextsLemmas.{position-map}
 use Rattle.lp_table.proofs.table.Table.find.Goals as goal
 
 pub returns : goal.returns

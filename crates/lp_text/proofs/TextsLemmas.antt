@@ -5,7 +5,7 @@ use Rattle.std.specs.List.{list_any, position_from}
 use Rattle.std.specs.Option.{option_map}
 use Rattle.std.proofs.lemmas.List.{take-append-drop, drop_more}
 use Rattle.std.proofs.lemmas.Iterator.Adapters.{position_from-zero}
-use Rattle.lp_table.specs.Texts.{same_text, has_text, place_of, distinct, distinct-repeated}
+use Rattle.lp_text.specs.Texts.{same_text, has_text, place_of, distinct, distinct-repeated}
 
 module _ {K : Type 0} (bytes : K → List ℕ) (text : List ℕ) where
   pub has_text-map : (keys : List K) → list_any (λ key. same_text text (bytes key)) keys ≡ has_text text (map bytes keys)

@@ -1,13 +1,13 @@
 -- The layout of a written netlist: two blanks before each item, one item a line (own rule).
 use Rattle.std.specs.Prelude.{ℕ, List, [], ◌∷◌, ◌++◌, codes, flat_map}
-use Rattle.lp_model.specs.declared.netlist.Direction.{Direction}
-use Rattle.lp_model.specs.declared.netlist.Direction.TheVariants.{Input, Output}
-use Rattle.lp_model.specs.declared.netlist.Port.{Port}
-use Rattle.lp_model.specs.declared.netlist.Connection.{Connection}
-use Rattle.lp_model.specs.declared.netlist.Instance.{Instance}
-use Rattle.lp_model.specs.declared.netlist.Module.{Module}
-use Rattle.lp_model.specs.Names.{Name}
-use Rattle.lp_model.specs.Verilog.{port_names}
+use Rattle.lp_small.specs.declared.netlist.Direction.{Direction}
+use Rattle.lp_small.specs.declared.netlist.Direction.TheVariants.{Input, Output}
+use Rattle.lp_small.specs.declared.netlist.Port.{Port}
+use Rattle.lp_small.specs.declared.netlist.Connection.{Connection}
+use Rattle.lp_small.specs.declared.netlist.Instance.{Instance}
+use Rattle.lp_small.specs.declared.netlist.Module.{Module}
+use Rattle.lp_small.specs.Names.{Name}
+use Rattle.lp_small.specs.Verilog.{port_names}
 
 -- parts separated by a comma and a blank
 abbrev pub listed : {A : Type 0} → (A → List ℕ) → List A → List ℕ

@@ -2,9 +2,9 @@
 use Rattle.std.specs.Prelude.{◌++◌, flat_map, IsTrue}
 use Rattle.std.specs.List.{list_all}
 use Rattle.lp_token.specs.Tokens.{is_filled}
-use Rattle.lp_model.specs.declared.netlist.Module.{Module}
-use Rattle.lp_model.specs.Names.{is_distinct}
-use Rattle.lp_model.specs.Verilog.{is_identifier, is_instance, port_names, instance_names, nets_of, all_among}
+use Rattle.lp_small.specs.declared.netlist.Module.{Module}
+use Rattle.lp_small.specs.Names.{is_distinct}
+use Rattle.lp_small.specs.Verilog.{is_identifier, is_instance, port_names, instance_names, nets_of, all_among}
 
 -- names are identifiers and stand once, lists are not empty, and each connected net is a port or a wire
 pub record IsWellFormed (m : Module) : Type 0 where

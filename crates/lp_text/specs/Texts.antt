@@ -5,6 +5,8 @@ use Rattle.std.specs.Option.{option_map}
 use Rattle.std.specs.Str.{bytes_eq}
 use Rattle.std.proofs.Common.{refl, sym, ap, ◌∙◌, subst, inl, inr, arith, append_assoc}
 use Rattle.std.proofs.lemmas.Bool.{cases_Bool, true≢false}
+use Rattle.std.proofs.lemmas.List.{append-nil}
+use Rattle.std.proofs.Math.ListN.{get_or-append}
 use Rattle.std.proofs.lemmas.Bool.Decides.{same_from_decides}
 use Rattle.std.proofs.lemmas.List.Folds.{list_any-append, list_any_at}
 use Rattle.std.proofs.lemmas.Slice.Eq.{bytes_eq-Decides}
@@ -26,6 +28,23 @@ place_of text (t ∷ ts) = if same_text text t then Some 0 else option_map suc (
 abbrev pub distinct : List (List ℕ) → Bool
 distinct [] = true
 distinct (t ∷ ts) = not (has_text t ts) && distinct ts
+
+-- the texts with one more behind them, where it is not among them yet
+abbrev pub with_text : List (List ℕ) → List ℕ → List (List ℕ)
+with_text texts text = if has_text text texts then texts else texts ++ text ∷ []
+
+-- the text of a number
+abbrev pub text_at : List (List ℕ) → ℕ → List ℕ
+text_at texts place = slice_index_or texts place []
+
+-- the texts with more behind them
+pub record Grown (old new : List (List ℕ)) : Type 0 where
+  pub more : List (List ℕ)
+  pub is : new ≡ old ++ more
+
+-- what stands in a table says the same of its numbers when the table has grown
+abbrev pub KeepsNumbers : List (List ℕ) → List (List ℕ) → Type 0
+KeepsNumbers old new = ((place : ℕ) → place < length old → text_at new place ≡ text_at old place) × ((text : List ℕ) (place : ℕ) → place_of text old ≡ Some place → place_of text new ≡ Some place)
 
 -- `same_text` is equality
 pub same_text-true : (a b : List ℕ) → same_text a b ≡ true → a ≡ b
@@ -165,3 +184,23 @@ place_of-distinct (t ∷ ts) (suc k) d h = by (same_text (slice_index_or ts k []
         let twice : has_text t ts ≡ true = subst (λ x. has_text x ts ≡ true) (same_text-true (slice_index_or ts k []) t s) (has_text-at ts k within) in
         absurd (true≢false (sym both.0 ∙ ap not twice))
     by false s behind = rw (s, behind) refl
+
+-- one more text is growth
+pub Grown-with_text : (texts : List (List ℕ)) (text : List ℕ) → Grown texts (with_text texts text)
+Grown-with_text texts text = by (has_text text texts)
+  where
+    by : (b : Bool) → Grown texts (if b then texts else texts ++ text ∷ [])
+    by true = record { more = []; is = sym (append-nil texts) }
+    by false = record { more = text ∷ []; is = refl }
+
+pub Grown-refl : (texts : List (List ℕ)) → Grown texts texts
+Grown-refl texts = record { more = []; is = sym (append-nil texts) }
+
+pub Grown-trans : {a b c : List (List ℕ)} → Grown a b → Grown b c → Grown a c
+Grown-trans {a} {b} {c} first second = record { more = first.more ++ second.more; is = second.is ∙ ap (λ xs. xs ++ second.more) first.is ∙ append_assoc a first.more second.more }
+
+pub Grown-KeepsNumbers : (old new : List (List ℕ)) → Grown old new → KeepsNumbers old new
+Grown-KeepsNumbers old new grown = (
+  (λ place h. ap (λ texts. text_at texts place) grown.is ∙ get_or-append old grown.more [] place h),
+  (λ text place e. ap (place_of text) grown.is ∙ place_of-append_left text old grown.more place e),
+)

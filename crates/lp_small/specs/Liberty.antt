@@ -4,11 +4,11 @@ use Rattle.std.specs.List.{list_all, list_any}
 use Rattle.lp_text.specs.Micros.{micros_of}
 use Rattle.lp_token.specs.declared.token.Language.TheVariants.{Liberty}
 use Rattle.lp_token.specs.Tokens.{Token, Word, Mark, Quoted, Spells, is_filled}
-use Rattle.lp_model.specs.declared.cell.Function.{Function}
-use Rattle.lp_model.specs.declared.cell.Function.TheVariants.{Same, Not, And, Or}
-use Rattle.lp_model.specs.declared.cell.Pin.{Pin}
-use Rattle.lp_model.specs.declared.cell.Cell.{Cell}
-use Rattle.lp_model.specs.Names.{Name, is_simple_name, is_reserved, has_name, is_distinct}
+use Rattle.lp_small.specs.declared.cell.Function.{Function}
+use Rattle.lp_small.specs.declared.cell.Function.TheVariants.{Same, Not, And, Or}
+use Rattle.lp_small.specs.declared.cell.Pin.{Pin}
+use Rattle.lp_small.specs.declared.cell.Cell.{Cell}
+use Rattle.lp_small.specs.Names.{Name, is_simple_name, is_reserved, has_name, is_distinct}
 
 -- a name that a library may give
 abbrev pub is_free_name : Name → Bool
