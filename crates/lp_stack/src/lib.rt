@@ -1,0 +1,9 @@
+//! Stacks that contracts see as lists, the top first.
+#![tactic(auto)]
+
+mod stack;
+
+pub use stack::Stack;
+
+#[cfg(test)]
+mod tests;
