@@ -6,8 +6,8 @@ ghost use Rattle.lp_hier.specs.Usable.{is_joinable, is_usable, connects_each_onc
 ghost use Rattle.lp_meaning.specs.Graph.{cell_named};
 
 use lp_cells::CellIndex;
-use lp_small::{Cell, Connection, Instance, Pin};
 use lp_names::is_identifier;
+use lp_small::{Cell, Connection, Instance, Pin};
 
 /// The most signal pins that a usable cell has.
 const MOST_PINS: usize = 240;

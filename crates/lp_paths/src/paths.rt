@@ -10,8 +10,8 @@ use crate::nets::numbered;
 use crate::operands::Operands;
 use crate::sources::sources;
 use lp_cells::CellIndex;
-use lp_small::Module;
 use lp_order::{Graph, is_ordered};
+use lp_small::Module;
 use lp_text::NoMemory;
 use std::alloc::Global;
 

@@ -13,8 +13,8 @@ use lp_liberty::one_library;
 use lp_meaning::{
     accepted_cells_differ, accepted_is_sound, headline as theorem, supplied, well_formed,
 };
-use lp_small::{Cell, Intent, Module};
 use lp_pg::connect_all;
+use lp_small::{Cell, Intent, Module};
 use lp_text::{Bytes, NoMemory};
 use lp_upf::one_intent;
 use lp_verilog::one_netlist;
