@@ -1,1 +1,4 @@
 pub mod Formula
+pub mod Grammar
+pub mod Machine
+pub mod Signs

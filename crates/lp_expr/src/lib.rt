@@ -1,7 +1,10 @@
 //! Boolean expressions of Liberty and UPF texts, and their values where signals may be unknown.
 #![tactic(auto)]
 
+mod bytes;
+mod dialect;
 mod expr;
+mod reader;
 mod step;
 
 pub use expr::Expr;
