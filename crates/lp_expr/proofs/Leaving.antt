@@ -101,7 +101,7 @@ result_is d z e = by (result_of d z) refl e
     by (Some r) is h = (r, is)
     by None is h = absurd (true≢false (sym h))
 
-pub spells : (d : Dialect) (text : List ℕ) (z : State) (r : Tree × List ℕ) → steps (step d) start text ≡ Some z → result_of d z ≡ Some r → Spells d text
+abbrev pub spells : (d : Dialect) (text : List ℕ) (z : State) (r : Tree × List ℕ) → steps (step d) start text ≡ Some z → result_of d z ≡ Some r → Spells d text
 spells d text z r taken is = let f = finding.found d text z r taken is in record { tree = r.0; tail = r.1; spelled = f.0; good = f.1; blank = f.2 }
 
 pub recognizes : (d : Dialect) → Recognizes (step d) (accepts d) start (IsExpression d)

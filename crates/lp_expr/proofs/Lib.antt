@@ -1,4 +1,5 @@
 pub mod Again
 pub mod Found
 pub mod Leaving
+pub mod Simulation
 pub mod Zipper

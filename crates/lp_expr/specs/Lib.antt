@@ -1,4 +1,6 @@
 pub mod Formula
 pub mod Grammar
 pub mod Machine
+pub mod Parts
+pub mod Reading
 pub mod Signs

@@ -98,11 +98,6 @@ step_by d at b m (modes.Half s) = on_longer_in d at b s m (longer d s b)
 abbrev pub step_in : Dialect → ℕ → ℕ → Machine → Option Machine
 step_in d at b m = step_by d at b m m.last
 
--- from a byte's number on
-abbrev pub run_in : Dialect → ℕ → List ℕ → Machine → Option Machine
-run_in d at [] m = Some m
-run_in d at (b ∷ text) m = option_and_then (λ n. run_in d (at + 1) text n) (step_in d at b m)
-
 -- all parts, where nothing waits
 abbrev pub whole_of : List mark.Mark → List part.Part → Option (List part.Part)
 whole_of [] out = Some out
@@ -120,3 +115,21 @@ finished_by d at m (modes.Half s) = None
 
 abbrev pub finished : Dialect → ℕ → Machine → Option (List part.Part)
 finished d at m = finished_by d at m m.last
+
+-- the parts of a text, or the byte at which the reader stops
+pub data Reading : Type 0 where
+  Stopped : ℕ → Reading
+  Whole : List part.Part → Reading
+
+abbrev pub ending : ℕ → Option (List part.Part) → Reading
+ending at None = Stopped at
+ending at (Some out) = Whole out
+
+abbrev pub going_on : ℕ → (Machine → Reading) → Option Machine → Reading
+going_on at more None = Stopped at
+going_on at more (Some m) = more m
+
+-- from a byte's number on: the first byte that is not taken, or one past the last byte, or all parts
+abbrev pub read_in : Dialect → ℕ → List ℕ → Machine → Reading
+read_in d at [] m = ending at (finished d at m)
+read_in d at (b ∷ text) m = going_on at (λ n. read_in d (at + 1) text n) (step_in d at b m)
