@@ -1,5 +1,6 @@
 -- The parts of an expression in postfix order: as the reader keeps them, and as a tree has them.
-use Rattle.std.specs.Prelude.{◌≡◌, ℕ, ◌-◌, Bool, List, [], ◌∷◌, ◌++◌, map, take, drop}
+use Rattle.std.specs.Prelude.{◌≡◌, ℕ, ◌-◌, Bool, true, ◌&&◌, nat_le, IsTrue, length, List, [], ◌∷◌, ◌++◌, map, take, drop}
+use Rattle.std.specs.List.{list_all}
 use Rattle.lp_expr.specs.declared.dialect.Dialect.{Dialect}
 use Rattle.lp_expr.specs.declared.dialect.Sign.{Sign}
 use Rattle.lp_expr.specs.declared.dialect.Part as part
@@ -31,7 +32,15 @@ item_of text (parts.Quoted from to) = InQuotes (between text from to)
 item_of text parts.Not = Negated
 item_of text (parts.Infix s) = Joint s
 
+-- the bytes of a part stand in a text of this length
+abbrev pub is_within : ℕ → part.Part → Bool
+is_within size (parts.Plain from to) = nat_le from to && nat_le to size
+is_within size (parts.Quoted from to) = nat_le from to && nat_le to size
+is_within size parts.Not = true
+is_within size (parts.Infix s) = true
+
 -- the parts are those of the expression that the text is
 pub record ReadsParts (d : Dialect) (text : List ℕ) (read : List part.Part) : Type 0 where
+  pub within : IsTrue (list_all (is_within (length text)) read)
   pub spells : Spells d text
   pub same : map (item_of text) read ≡ tree_items spells.tree

@@ -4,6 +4,7 @@
 mod bytes;
 mod dialect;
 mod expr;
+mod number;
 mod parts;
 mod reader;
 mod step;
