@@ -1,1 +1,2 @@
 pub mod Formula
+pub mod Postfix
