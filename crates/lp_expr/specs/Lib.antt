@@ -1,2 +1,5 @@
 pub mod Formula
+pub mod Places
 pub mod Postfix
+pub mod Replaces
+pub mod Table
