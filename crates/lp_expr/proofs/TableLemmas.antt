@@ -1,12 +1,10 @@
 -- Steps on words against steps on Boolean values, and tables made word by word.
-use Rattle.std.proofs.Common.{◌≡◌, ℕ, ◌+◌, ◌*◌, ◌-◌, ◌/◌, ◌%◌, ◌^◌, ◌<◌, ◌≤◌, Bool, false, get_or, length, List, [], ◌∷◌, ◌++◌, ⊎_elim, refl, sym, ap, ◌∙◌, arith}
+use Rattle.std.proofs.Common.{◌≡◌, ℕ, ◌+◌, ◌*◌, ◌-◌, ◌%◌, ◌^◌, ◌<◌, ◌≤◌, Bool, false, get_or, length, List, ◌∷◌, refl, sym, ap, ◌∙◌, arith}
 use Rattle.std.proofs.Math.Pow.{pow_mono}
-use Rattle.std.proofs.lemmas.Bool.{cases_eq}
-use Rattle.std.proofs.lemmas.List.{length_push, get_or_push, get_or_append_left}
 use Rattle.std.proofs.lemmas.Nat.{pow-add, one_shl}
 use Rattle.lp_expr.specs.declared.step.Step.{Step}
 use Rattle.lp_expr.specs.Formula.{top, below, truth, digits}
-use Rattle.lp_expr.specs.Table.{is_bit, IsTable}
+use Rattle.lp_expr.specs.Table.{is_bit}
 use Rattle.lp_expr.proofs.Bits.{is_bit_low, is_bit_high, is_bit-zero, patterns, pattern_at}
 use Rattle.lp_expr.proofs.Digits.{get_or-digits, get_or-digits_past}
 
@@ -44,33 +42,3 @@ many_words count h high =
 pub record IsMade (table : List ℕ) (count : ℕ) (steps : List Step) (words : ℕ) : Type 0 where
   pub size : length table ≡ words
   pub bits : (word place : ℕ) → word < words → place < 64 → is_bit (get_or table word 0) place ≡ truth steps (digits count (word * 64 + place))
-
-pub IsMade-none : (table : List ℕ) (count : ℕ) (steps : List Step) → table ≡ [] → IsMade table count steps 0
-IsMade-none table count steps empty = record { size = ap length empty; bits = λ word place h small. absurd (omega arith) }
-
-pub IsMade-more : (table new : List ℕ) (count : ℕ) (steps : List Step) (words made : ℕ) → IsMade table count steps words
-    → ((place : ℕ) → place < 64 → is_bit made place ≡ truth steps (digits count (words * 64 + place))) → new ≡ table ++ made ∷ [] → IsMade new count steps (words + 1)
-IsMade-more table new count steps words made before here e = record {
-  size = ap length e ∙ length_push table made ∙ ap (λ n. n + 1) before.size;
-  bits = λ word place h small.
-      ⊎_elim
-      (λ (at : word ≡ words).
-      let value : get_or new word 0 ≡ made = rw (e, at) (get_or_push table made 0 words before.size) in
-      rw (value, at) (here place small))
-      (λ (other : word ≡ words → ⊥).
-      let inside : word < words = omega arith in
-      let value : get_or new word 0 ≡ get_or table word 0 = rw e (get_or_append_left table (made ∷ []) 0 word (omega (arith, before.size))) in
-      rw value (before.bits word place inside small))
-      (cases_eq word words);
-}
-
-pub IsTable-made : (table : List ℕ) (count : ℕ) (steps : List Step) (words : ℕ) → count ≤ 12 → 2 ^ count ≤ 64 * words → IsMade table count steps words → IsTable table count steps
-IsTable-made table count steps words few wide made = record {
-  few = few;
-  wide = omega (arith, made.size);
-  bits = λ place h.
-      let inside : place / 64 < words = omega arith in
-      let small : place % 64 < 64 = omega arith in
-      let whole : place / 64 * 64 + place % 64 ≡ place = omega arith in
-      made.bits (place / 64) (place % 64) inside small ∙ ap (λ k. truth steps (digits count k)) whole;
-}

@@ -17,7 +17,8 @@ struct Fixed {
 /// The value of an expression where its variables have these values, in their order: where some are
 /// unknown, the value that all their replacements by 0 or 1 agree on, else unknown.
 ///
-/// Takes no memory, and a few instructions where all values are known.
+/// Takes no memory. Where all values are known, it reads one bit of the table, and else at most the whole
+/// table, until two values differ.
 pub fn value(e: &Expr, v: &[Tern]) -> Tern
     requires { length v.now ≡ length e.now.variables }
     ensures { result ≡ value_of e.now v.now }
@@ -25,7 +26,7 @@ pub fn value(e: &Expr, v: &[Tern]) -> Tern
     let count = e.count();
     let fixed = fixed_by(v, count);
     let first = e.bit(fixed.ones);
-    if !all_are(e, &fixed, first) {
+    if !all_agree(e, &fixed, first) {
         return Tern::X;
     }
     if first { Tern::One } else { Tern::Zero }
@@ -69,7 +70,7 @@ fn one_digit(t: Tern) -> usize
 
 /// Whether the expression has the value `first` at each place with the fixed digits, as it has where
 /// all others are 0.
-fn all_are(e: &Expr, fixed: &Fixed, first: bool) -> bool
+fn all_agree(e: &Expr, fixed: &Fixed, first: bool) -> bool
     requires { value_at e.now fixed.now.ones ≡ first }
     ensures { MatchBool result (AllAt e.now fixed.now.mask fixed.now.ones first) (SomeAt e.now fixed.now.mask fixed.now.ones (not first)) }
 {

@@ -8,17 +8,17 @@ bit-first-requires c =
     let fixed = c.fixed_by-fixed in
     (place-first c.args.e.now c.args.v.now fixed.result.mask fixed.result.ones c.requires fixed.ensures.mask fixed.ensures.ones).inside
 
-pub returns-then-not-all_are : goal.returns-then-not-all_are
-returns-then-not-all_are c =
+pub returns-then-not-all_agree : goal.returns-then-not-all_agree
+returns-then-not-all_agree c =
     let fixed = c.fixed_by-fixed in
-    sym (value-some c.args.e.now c.args.v.now fixed.result.mask fixed.result.ones c.requires fixed.ensures.mask fixed.ensures.ones c.bit-first.result (sym c.bit-first.ensures) c.if-not-all_are.ensures)
+    sym (value-some c.args.e.now c.args.v.now fixed.result.mask fixed.result.ones c.requires fixed.ensures.mask fixed.ensures.ones c.bit-first.result (sym c.bit-first.ensures) c.if-not-all_agree.ensures)
 
 pub returns-then-first : goal.returns-then-first
 returns-then-first c =
     let fixed = c.fixed_by-fixed in
-    sym (value-all c.args.e.now c.args.v.now fixed.result.mask fixed.result.ones c.requires fixed.ensures.mask fixed.ensures.ones c.bit-first.result c.if-not-all_are.ensures ∙ ap (λ b. cond b One Zero) c.if-first.true)
+    sym (value-all c.args.e.now c.args.v.now fixed.result.mask fixed.result.ones c.requires fixed.ensures.mask fixed.ensures.ones c.bit-first.result c.if-not-all_agree.ensures ∙ ap (λ b. cond b One Zero) c.if-first.true)
 
 pub returns-else-first : goal.returns-else-first
 returns-else-first c =
     let fixed = c.fixed_by-fixed in
-    sym (value-all c.args.e.now c.args.v.now fixed.result.mask fixed.result.ones c.requires fixed.ensures.mask fixed.ensures.ones c.bit-first.result c.if-not-all_are.ensures ∙ ap (λ b. cond b One Zero) c.if-first.false)
+    sym (value-all c.args.e.now c.args.v.now fixed.result.mask fixed.result.ones c.requires fixed.ensures.mask fixed.ensures.ones c.bit-first.result c.if-not-all_agree.ensures ∙ ap (λ b. cond b One Zero) c.if-first.false)

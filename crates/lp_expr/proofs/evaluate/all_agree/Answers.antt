@@ -1,7 +1,7 @@
 use Rattle.std.proofs.Common.{◌≡◌, ◌*◌, ◌%◌, ◌^◌, ◌-◌, length, ap, ◌∙◌, arith}
 use Rattle.std.proofs.lemmas.Nat.{one_shl}
 use Rattle.lp_expr.proofs.PlacesLemmas.{AllAt-known}
-use Rattle.lp_expr.proofs.evaluate.all_are.Goals as goal
+use Rattle.lp_expr.proofs.evaluate.all_agree.Goals as goal
 
 pub returns-then-fixed-places : goal.returns-then-fixed-places
 returns-then-fixed-places c =
