@@ -13,7 +13,9 @@ pub fn same(a: &Expr, b: &Expr, slots: &[u8], n: u8) -> bool
     requires slots { length slots.now ≡ length a.now.variables + length b.now.variables }
     requires below { All (λ slot. slot < n) slots.now }
     requires few { n ≤ 12 }
-    ensures { IsTrue result ↔ ((c : ℕ → Bool) → truth a.now.steps (map c (take (length a.now.variables) slots.now)) ≡ truth b.now.steps (map c (drop (length a.now.variables) slots.now))) }
+    ensures { IsTrue result ↔ ((c : ℕ → Bool) →
+        truth a.now.steps (map c (take (length a.now.variables) slots.now))
+        ≡ truth b.now.steps (map c (drop (length a.now.variables) slots.now))) }
 {
     let (front, back) = slots.split_at(a.count());
     for choice in 0..1 << n {
