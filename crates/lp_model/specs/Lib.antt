@@ -1,3 +1,4 @@
 pub mod Bits
+pub mod FaultWords
 pub mod Reasons
 pub mod Slots
