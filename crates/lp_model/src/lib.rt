@@ -26,7 +26,7 @@ pub use bits::{Bit, Bits};
 pub use chain::{Chain, Operator, Passage, Rails, SideWinners, Winners};
 pub use counts::Counts;
 pub use events::{Env, Event, EventList, InputChange, RegInit, SupplyChange, SupplyNodes, Trace};
-pub use fault::{CheckFault, ControlRef, DriverRef, EntryRef, EventFault, GeneratorFault, IntentFault, IntentLimit, JoinRef, LibraryFault, LoadLimit, NetlistFault, NetlistLimit, PartRef, PinFault, PinRef, PoweredRef, ReaderRef, RowRef, Site, StrategyFault, SupplyFault, SupplyRef, UnfitReason};
+pub use fault::{CheckFault, ControlRef, DesignFault, DriverRef, EntryRef, EventFault, Fault, GeneratorFault, IntentFault, IntentLimit, JoinRef, LibraryFault, LoadLimit, Loaded, NetlistFault, NetlistLimit, PartRef, PinFault, PinRef, PoweredRef, ReaderRef, Refusal, RowRef, Site, StrategyFault, SupplyFault, SupplyRef, UnfitReason, write_line};
 pub use generated::Generated;
 pub use graph::{Edge, EdgeFrom, EdgeKind, Graph, Inst, Leaf, Node, NodeName, PinNet, Source, WireKind};
 pub use groups::{Attr, Group, Groups};
