@@ -1,5 +1,10 @@
+pub mod Agreement
 pub mod Bits
+pub mod CommandsView
 pub mod FaultLines
 pub mod FaultWords
+pub mod GroupsView
+pub mod LibraryView
+pub mod NetlistView
 pub mod Reasons
 pub mod Slots

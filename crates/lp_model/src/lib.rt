@@ -12,6 +12,7 @@ mod graph;
 mod groups;
 mod ids;
 mod intent;
+mod laws;
 mod library;
 mod need;
 mod netlist;
@@ -21,6 +22,7 @@ mod side;
 mod slot;
 mod supply;
 mod upf;
+mod view;
 
 pub use bits::{Bit, Bits};
 pub use chain::{Chain, Operator, Passage, Rails, SideWinners, Winners};
@@ -32,6 +34,7 @@ pub use graph::{Edge, EdgeFrom, EdgeKind, Graph, Inst, Leaf, Node, NodeName, Pin
 pub use groups::{Attr, Group, Groups};
 pub use ids::{CellId, EdgeId, InstId, LeafId, NodeId, OriginId, SetId, StrategyId};
 pub use intent::{Applies, CellList, DeclaredState, Domain, Element, Intent, ListedSupply, PortAttribute, PowerSwitch, Rule, ScopedName, SetName, SetOrDomain, Signal, Strategy, StrategyKind, SupplyNet, SupplyPort, SupplySet, TableRow};
+pub use laws::{grown_names_keep_commands, grown_names_keep_groups, grown_names_keep_libraries, grown_names_keep_netlists};
 pub use library::{Action, Cell, Library, PgKind, PgPin, Pin, PinUse, RetClass, Roles, Shifter, ShifterKind, StateGroup, StateKind, Switched, VoltageRange};
 pub use need::{IsoNeed, RetNeed, ShiftNeed, SwitchNeed, VoltagePair};
 pub use netlist::{Assign, Connection, Connections, Direction, Instance, Module, NetDecl, Netlist, Port, Range};
@@ -41,3 +44,4 @@ pub use side::{Location, Side};
 pub use slot::{SetSlot, StrategySlot};
 pub use supply::{DomainMap, Origin, OriginKind, Row, SetOrigins, Supplies};
 pub use upf::{Command, CommandItem, CommandOption, CommandWord, Commands, OptionWord, UpfWord, WordForm, WordList};
+pub use view::View;
