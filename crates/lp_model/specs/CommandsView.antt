@@ -1,5 +1,5 @@
 -- UPF words and commands by the texts of their names (IEEE 1801-2015, the commands that are read).
-use Rattle.std.specs.Prelude.{◌≡◌, ℕ, true, List, [], ◌∷◌, ◌++◌, map, length, codes, Option}
+use Rattle.std.specs.Prelude.{◌≡◌, ℕ, Bool, true, List, [], ◌∷◌, ◌++◌, map, length, codes, Option}
 use Rattle.std.specs.List.{flat_map}
 use Rattle.std.specs.Option.{option_map}
 use Rattle.std.proofs.Common.{refl, ap}
@@ -118,9 +118,10 @@ pub record OptionView : Type 0 where
   pub word : OptionWord
   pub place : Place
   pub values : List WordView
+  pub high : Option Bool
 
 abbrev pub option_view : List (List ℕ) → CommandOption → OptionView
-option_view texts o = record { word = o.word; place = o.place; values = line_view texts o.values }
+option_view texts o = record { word = o.word; place = o.place; values = line_view texts o.values; high = o.high }
 
 abbrev pub command_option_numbers : CommandOption → List ℕ
 command_option_numbers o = line_numbers o.values

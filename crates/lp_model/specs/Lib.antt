@@ -7,4 +7,5 @@ pub mod GroupsView
 pub mod LibraryView
 pub mod NetlistView
 pub mod Reasons
+pub mod Refusals
 pub mod Slots

@@ -7,7 +7,7 @@ use Rattle.lp_model.specs.Agreement.{numbers_below, Agree, Agree-left, Agree-rig
 use Rattle.lp_model.specs.declared.bits.Bit.{Bit}
 use Rattle.lp_model.specs.declared.bits.Bit.TheVariants.{Net, Select, Const}
 use Rattle.lp_model.specs.declared.netlist.Direction.{Direction}
-use Rattle.lp_model.specs.declared.netlist.Range.{Range}
+use Rattle.lp_model.specs.declared.netlist.BitRange.{BitRange}
 use Rattle.lp_model.specs.declared.netlist.Port.{Port}
 use Rattle.lp_model.specs.declared.netlist.NetDecl.{NetDecl}
 use Rattle.lp_model.specs.declared.netlist.Connection.{Connection}
@@ -43,7 +43,7 @@ bits_numbers bits = flat_map bit_numbers bits
 pub record PortView : Type 0 where
   pub name : List ℕ
   pub direction : Direction
-  pub range : Option Range
+  pub range : Option BitRange
 
 abbrev pub port_view : List (List ℕ) → Port → PortView
 port_view texts p = record { name = text_at texts p.name.0; direction = p.direction; range = p.range }
@@ -53,7 +53,7 @@ port_numbers p = p.name.0 ∷ []
 
 pub record NetView : Type 0 where
   pub name : List ℕ
-  pub range : Option Range
+  pub range : Option BitRange
 
 abbrev pub net_view : List (List ℕ) → NetDecl → NetView
 net_view texts n = record { name = text_at texts n.name.0; range = n.range }

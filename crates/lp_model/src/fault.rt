@@ -1,4 +1,5 @@
 mod check;
+mod from;
 mod intent;
 mod library;
 mod line;
@@ -12,7 +13,7 @@ mod supply;
 pub use check::CheckFault;
 pub use intent::{IntentFault, IntentLimit, LoadLimit};
 pub use library::LibraryFault;
-pub use line::write_line;
+pub use line::{write_line, write_line_with};
 pub use netlist::{JoinRef, NetlistFault, NetlistLimit, PinRef, UnfitReason};
 pub use refs::{ControlRef, DriverRef, EntryRef, PartRef, PoweredRef, ReaderRef, Site};
 pub use refusal::{DesignFault, Fault, Loaded, Refusal};

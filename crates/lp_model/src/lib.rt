@@ -28,7 +28,7 @@ pub use bits::{Bit, Bits};
 pub use chain::{Chain, Operator, Passage, Rails, SideWinners, Winners};
 pub use counts::Counts;
 pub use events::{Env, Event, EventList, InputChange, RegInit, SupplyChange, SupplyNodes, Trace};
-pub use fault::{CheckFault, ControlRef, DesignFault, DriverRef, EntryRef, EventFault, Fault, GeneratorFault, IntentFault, IntentLimit, JoinRef, LibraryFault, LoadLimit, Loaded, NetlistFault, NetlistLimit, PartRef, PinFault, PinRef, PoweredRef, ReaderRef, Refusal, RowRef, Site, StrategyFault, SupplyFault, SupplyRef, UnfitReason, write_line};
+pub use fault::{CheckFault, ControlRef, DesignFault, DriverRef, EntryRef, EventFault, Fault, GeneratorFault, IntentFault, IntentLimit, JoinRef, LibraryFault, LoadLimit, Loaded, NetlistFault, NetlistLimit, PartRef, PinFault, PinRef, PoweredRef, ReaderRef, Refusal, RowRef, Site, StrategyFault, SupplyFault, SupplyRef, UnfitReason, write_line, write_line_with};
 pub use generated::Generated;
 pub use graph::{Edge, EdgeFrom, EdgeKind, Graph, Inst, Leaf, Node, NodeName, PinNet, Source, WireKind};
 pub use groups::{Attr, Group, Groups};
@@ -37,7 +37,7 @@ pub use intent::{Applies, CellList, DeclaredState, Domain, Element, Intent, List
 pub use laws::{grown_names_keep_commands, grown_names_keep_groups, grown_names_keep_libraries, grown_names_keep_netlists};
 pub use library::{Action, Cell, Library, PgKind, PgPin, Pin, PinUse, RetClass, Roles, Shifter, ShifterKind, StateGroup, StateKind, Switched, VoltageRange};
 pub use need::{IsoNeed, RetNeed, ShiftNeed, SwitchNeed, VoltagePair};
-pub use netlist::{Assign, Connection, Connections, Direction, Instance, Module, NetDecl, Netlist, Port, Range};
+pub use netlist::{Assign, BitRange, Connection, Connections, Direction, Instance, Module, NetDecl, Netlist, Port};
 pub use plan::{AddedKind, Insertion, Merge, Pair, Plan};
 pub use reason::Reason;
 pub use side::{Location, Side};

@@ -13,7 +13,7 @@ pub enum Direction {
 
 /// The range of a vector, as in `[7:0]`: both indices belong to it (IEEE 1364-2005, vectors).
 #[derive(Clone, Copy, Debug, PartialEq, Eq)]
-pub struct Range {
+pub struct BitRange {
     /// The left index, that of the most significant bit.
     pub left: u32,
     /// The right index; it may be above the left one.
@@ -26,7 +26,7 @@ pub struct Port {
     /// The port's name, which is its net's too.
     pub name: NameId,
     /// The range of a vector; a scalar has none.
-    pub range: Option<Range>,
+    pub range: Option<BitRange>,
     /// Its direction.
     pub direction: Direction,
 }
@@ -37,7 +37,7 @@ pub struct NetDecl {
     /// The net's name.
     pub name: NameId,
     /// The range of a vector; a scalar has none.
-    pub range: Option<Range>,
+    pub range: Option<BitRange>,
 }
 
 /// A named connection, as in `.A(n)`.

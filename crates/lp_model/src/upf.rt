@@ -177,6 +177,8 @@ pub struct CommandOption {
     pub place: Place,
     /// Its word.
     pub word: OptionWord,
+    /// Of `-on_state`, whether the switch is on where the control is 1, else where it is 0; none of other options.
+    pub high: Option<bool>,
 }
 
 /// A command of a UPF text.

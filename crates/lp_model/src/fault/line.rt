@@ -1,6 +1,6 @@
 ghost use Rattle.std.specs.Prelude.{◌≡◌, ◌++◌, codes, decimal, IfOk, OnOk, IsTrue};
 ghost use Rattle.lp_text.specs.Texts.{text_at};
-ghost use Rattle.lp_model.specs.FaultLines.{field, fields_text, place_text, pin_text, join_fields, library_fields, netlist_fields, intent_fields, event_fields, design_fields, fault_fields, fault_lead, fault_line, is_plain};
+ghost use Rattle.lp_model.specs.FaultLines.{field, fields_text, place_text, pin_text, join_fields, library_fields, netlist_fields, intent_fields, event_fields, design_fields, fault_fields, fault_lead, fault_word, fault_line, line_text, is_plain};
 
 use crate::fault::intent::IntentFault;
 use crate::fault::library::LibraryFault;
@@ -26,6 +26,32 @@ pub fn write_line(alloc: Global, names: &Names, fault: &Fault) -> Result<Bytes, 
     out.extend_from_slice(fault.word().as_bytes())?;
     put_fields(&mut out, names, fault)?;
     Ok(Bytes::new(out))
+}
+
+/// The line of a fault with these fields, without a line feed: for the stages that know what its fields stand for.
+///
+/// # Errors
+///
+/// Only where memory is refused.
+pub fn write_line_with(alloc: Global, fault: &Fault, fields: &[Bytes]) -> Result<Bytes, NoMemory>
+    ensures { IfOk result (λ line. line ≡ line_text (fault_lead fault.now ++ fault_word fault.now) fields.now) }
+{
+    let mut out = Vec::from_slice(alloc, b"lpinsert: ")?;
+    put_lead(&mut out, fault)?;
+    out.extend_from_slice(fault.word().as_bytes())?;
+    put_texts(&mut out, fields)?;
+    Ok(Bytes::new(out))
+}
+
+/// Appends fields.
+fn put_texts(out: &mut Vec<u8>, fields: &[Bytes]) -> Result<(), NoMemory>
+    ensures { OnOk result (out.new.items ≡ out.old.items ++ fields_text fields.now) }
+{
+    for text in fields {
+        out.extend_from_slice(b" ")?;
+        out.extend_from_slice(text.all())?;
+    }
+    Ok(())
 }
 
 /// Appends what stands before the word.

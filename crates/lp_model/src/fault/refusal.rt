@@ -59,7 +59,7 @@ pub enum Fault {
     Powered(NetlistFault),
     /// Of the k-th loaded file, from 1, in whose text its place is.
     Loaded(u32, IntentFault),
-    /// A form that is not built yet, by the number of the work that brings it.
+    /// A form that is not read yet, by its number.
     NotYet(u32),
 }
 
