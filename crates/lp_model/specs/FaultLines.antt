@@ -58,17 +58,17 @@ abbrev pub netlist_fields : List (List ℕ) → NetlistFault → List (List ℕ)
 netlist_fields names (TNetlistFault.Syntax place) = place_text place ∷ []
 netlist_fields names (TNetlistFault.Unsupported place word) = place_text place ∷ text_at names word.0 ∷ []
 netlist_fields names (TNetlistFault.DuplicateName place name) = place_text place ∷ text_at names name.0 ∷ []
-netlist_fields names (TNetlistFault.UnknownModule parent instance) = text_at names parent.0 ∷ text_at names instance.0 ∷ []
-netlist_fields names (TNetlistFault.UnknownPin parent instance pin) = text_at names parent.0 ∷ text_at names instance.0 ∷ pin_text names pin ∷ []
+netlist_fields names (TNetlistFault.UnknownModule at) = text_at names at.parent.0 ∷ text_at names at.instance.0 ∷ []
+netlist_fields names (TNetlistFault.UnknownPin at pin) = text_at names at.parent.0 ∷ text_at names at.instance.0 ∷ pin_text names pin ∷ []
 netlist_fields names (TNetlistFault.Width parent join) = text_at names parent.0 ∷ join_fields names join
 netlist_fields names (TNetlistFault.TwoDrivers node) = []
 netlist_fields names (TNetlistFault.Recursive target) = text_at names target.0 ∷ []
 netlist_fields names (TNetlistFault.Top count) = decimal count ∷ []
 netlist_fields names (TNetlistFault.ReservedName name) = text_at names name.0 ∷ []
-netlist_fields names (TNetlistFault.AlreadyPowered parent instance pin) = text_at names parent.0 ∷ text_at names instance.0 ∷ text_at names pin.0 ∷ []
+netlist_fields names (TNetlistFault.AlreadyPowered at pin) = text_at names at.parent.0 ∷ text_at names at.instance.0 ∷ text_at names pin.0 ∷ []
 netlist_fields names (TNetlistFault.Limit limit) = decimal (netlist_limit_number limit) ∷ []
 netlist_fields names (TNetlistFault.WireLoop node) = []
-netlist_fields names (TNetlistFault.UnfitCell parent instance reason) = text_at names parent.0 ∷ text_at names instance.0 ∷ unfit_word reason ∷ []
+netlist_fields names (TNetlistFault.UnfitCell at reason) = text_at names at.parent.0 ∷ text_at names at.instance.0 ∷ unfit_word reason ∷ []
 
 abbrev pub intent_fields : List (List ℕ) → IntentFault → List (List ℕ)
 intent_fields names (TIntentFault.Syntax place) = place_text place ∷ []

@@ -14,7 +14,7 @@ pub use check::CheckFault;
 pub use intent::{IntentFault, IntentLimit, LoadLimit};
 pub use library::LibraryFault;
 pub use line::{write_line, write_line_with};
-pub use netlist::{JoinRef, NetlistFault, NetlistLimit, PinRef, UnfitReason};
+pub use netlist::{InstanceRef, JoinRef, NetlistFault, NetlistLimit, PinRef, UnfitReason};
 pub use refs::{ControlRef, DriverRef, EntryRef, PartRef, PoweredRef, ReaderRef, Site};
 pub use refusal::{DesignFault, Fault, Loaded, Refusal};
 pub use run::{EventFault, GeneratorFault, PinFault};

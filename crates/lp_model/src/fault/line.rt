@@ -4,7 +4,7 @@ ghost use Rattle.lp_model.specs.FaultLines.{field, fields_text, place_text, pin_
 
 use crate::fault::intent::IntentFault;
 use crate::fault::library::LibraryFault;
-use crate::fault::netlist::{JoinRef, NetlistFault, PinRef};
+use crate::fault::netlist::{InstanceRef, JoinRef, NetlistFault, PinRef};
 use crate::fault::refusal::{DesignFault, Fault};
 use crate::fault::run::{EventFault, GeneratorFault};
 use crate::fault::supply::SupplyFault;
@@ -105,7 +105,12 @@ fn put_name(out: &mut Vec<u8>, names: &Names, name: NameId) -> Result<(), NoMemo
 }
 
 /// Appends two fields that are names.
-fn put_names(out: &mut Vec<u8>, names: &Names, first: NameId, second: NameId) -> Result<(), NoMemory>
+fn put_names(
+    out: &mut Vec<u8>,
+    names: &Names,
+    first: NameId,
+    second: NameId,
+) -> Result<(), NoMemory>
     ensures { OnOk result (out.new.items ≡ out.old.items ++ (field (text_at names.now first.0) ++ field (text_at names.now second.0))) }
 {
     put_name(out, names, first)?;
@@ -125,7 +130,12 @@ fn put_place(out: &mut Vec<u8>, place: Place) -> Result<(), NoMemory>
 }
 
 /// Appends a place and a name.
-fn put_named_place(out: &mut Vec<u8>, names: &Names, place: Place, name: NameId) -> Result<(), NoMemory>
+fn put_named_place(
+    out: &mut Vec<u8>,
+    names: &Names,
+    place: Place,
+    name: NameId,
+) -> Result<(), NoMemory>
     ensures { OnOk result (out.new.items ≡ out.old.items ++ (field (place_text place) ++ field (text_at names.now name.0))) }
 {
     put_place(out, place)?;
@@ -151,6 +161,12 @@ fn put_library(out: &mut Vec<u8>, names: &Names, fault: &LibraryFault) -> Result
         }
         LibraryFault::DuplicateCell { cell } => put_name(out, names, *cell),
     }
+}
+
+fn put_instance(out: &mut Vec<u8>, names: &Names, at: InstanceRef) -> Result<(), NoMemory>
+    ensures { OnOk result (out.new.items ≡ out.old.items ++ (field (text_at names.now at.parent.0) ++ field (text_at names.now at.instance.0))) }
+{
+    put_names(out, names, at.parent, at.instance)
 }
 
 fn put_pin(out: &mut Vec<u8>, names: &Names, pin: PinRef) -> Result<(), NoMemory>
@@ -183,11 +199,9 @@ fn put_netlist(out: &mut Vec<u8>, names: &Names, fault: &NetlistFault) -> Result
         | NetlistFault::DuplicateName { place, name } => {
             put_named_place(out, names, *place, *name)
         }
-        NetlistFault::UnknownModule { parent, instance } => {
-            put_names(out, names, *parent, *instance)
-        }
-        NetlistFault::UnknownPin { parent, instance, pin } => {
-            put_names(out, names, *parent, *instance)?;
+        NetlistFault::UnknownModule { at } => put_instance(out, names, *at),
+        NetlistFault::UnknownPin { at, pin } => {
+            put_instance(out, names, *at)?;
             put_pin(out, names, *pin)
         }
         NetlistFault::Width { parent, join } => {
@@ -198,13 +212,13 @@ fn put_netlist(out: &mut Vec<u8>, names: &Names, fault: &NetlistFault) -> Result
             put_name(out, names, *name)
         }
         NetlistFault::Top { count } => put_number(out, *count),
-        NetlistFault::AlreadyPowered { parent, instance, pin } => {
-            put_names(out, names, *parent, *instance)?;
+        NetlistFault::AlreadyPowered { at, pin } => {
+            put_instance(out, names, *at)?;
             put_name(out, names, *pin)
         }
         NetlistFault::Limit { limit } => put_number(out, limit.number()),
-        NetlistFault::UnfitCell { parent, instance, reason } => {
-            put_names(out, names, *parent, *instance)?;
+        NetlistFault::UnfitCell { at, reason } => {
+            put_instance(out, names, *at)?;
             put_word(out, reason.word())
         }
         NetlistFault::TwoDrivers { .. } | NetlistFault::WireLoop { .. } => Ok(()),

@@ -5,6 +5,15 @@ use crate::ids::NodeId;
 use crate::reason::Reason;
 use lp_text::{NameId, Place};
 
+/// An instance of a module.
+#[derive(Clone, Copy, Debug, PartialEq, Eq)]
+pub struct InstanceRef {
+    /// The name of the module in which it stands.
+    pub parent: NameId,
+    /// Its name.
+    pub instance: NameId,
+}
+
 /// The connection of an unknown pin.
 #[derive(Clone, Copy, Debug, PartialEq, Eq)]
 pub enum PinRef {
@@ -110,17 +119,13 @@ pub enum NetlistFault {
     },
     /// F13: The target of an instance is no module and no cell.
     UnknownModule {
-        /// The module in which the instance stands.
-        parent: NameId,
         /// The instance.
-        instance: NameId,
+        at: InstanceRef,
     },
     /// F14: A connection that no port or pin takes.
     UnknownPin {
-        /// The module in which the instance stands.
-        parent: NameId,
         /// The instance.
-        instance: NameId,
+        at: InstanceRef,
         /// The connection.
         pin: PinRef,
     },
@@ -153,10 +158,8 @@ pub enum NetlistFault {
     },
     /// F20: A source connects a pg_pin.
     AlreadyPowered {
-        /// The module in which the instance stands.
-        parent: NameId,
         /// The instance.
-        instance: NameId,
+        at: InstanceRef,
         /// The pg_pin.
         pin: NameId,
     },
@@ -172,10 +175,8 @@ pub enum NetlistFault {
     },
     /// F61: A source instance of a cell that a source may not have.
     UnfitCell {
-        /// The module in which the instance stands.
-        parent: NameId,
         /// The instance.
-        instance: NameId,
+        at: InstanceRef,
         /// Why not.
         reason: UnfitReason,
     },
