@@ -1,4 +1,4 @@
-/// A net bit of a graph: counts its nodes from 0, below 2^32.
+/// A net bit of a graph: counts its nodes from 0.
 #[derive(Clone, Copy, Debug, PartialEq, Eq)]
 pub struct NodeId(pub u32);
 

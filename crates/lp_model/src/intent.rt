@@ -93,8 +93,6 @@ pub struct SupplyNet {
     pub group: u32,
     /// The number of the command that made it, from 0.
     pub command: u32,
-    /// Whether a row lists it.
-    pub is_listed: bool,
 }
 
 /// A power switch (IEEE 1801-2015 create_power_switch).
@@ -116,6 +114,17 @@ pub struct PowerSwitch {
     pub high: bool,
 }
 
+/// What a row of the state table gives a supply. It takes 16 bytes.
+#[derive(Clone, Copy, Debug, PartialEq, Eq)]
+pub enum RowState {
+    /// Nothing: any declared state, as for `*`.
+    Free,
+    /// The state off.
+    Off,
+    /// The state on, at a voltage in microvolts, at most 10^12.
+    On(u64),
+}
+
 /// A column of the state table: the supply that an add_pst_state gives a state to (IEEE 1801-2015 create_pst).
 #[derive(Clone, Copy, Debug, PartialEq, Eq)]
 pub enum ListedSupply {
@@ -128,8 +137,8 @@ pub enum ListedSupply {
 /// A row of the state table (IEEE 1801-2015 add_pst_state).
 #[derive(Drop)]
 pub struct TableRow {
-    /// For each column its state, none for `*`.
-    pub states: Items<Option<DeclaredState>>,
+    /// The state of each column.
+    pub states: Items<RowState>,
     /// The number of the command that made it, from 0.
     pub command: u32,
 }

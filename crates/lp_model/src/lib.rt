@@ -104,6 +104,7 @@ pub use intent::Intent;
 pub use intent::ListedSupply;
 pub use intent::PortAttribute;
 pub use intent::PowerSwitch;
+pub use intent::RowState;
 pub use intent::Rule;
 pub use intent::ScopedName;
 pub use intent::SetName;

@@ -40,7 +40,7 @@ pub struct NetDecl {
     pub range: Option<BitRange>,
 }
 
-/// A named connection, as in `.A(n)`.
+/// A named connection, as in `.A(n)`. It takes 24 bytes.
 #[derive(Drop)]
 pub struct Connection {
     /// What it is connected to; no bit where it is left open, as in `.A()`.
@@ -58,7 +58,7 @@ pub enum Connections {
     Ordered(Items<Bits>),
 }
 
-/// An instance of a cell or a module.
+/// An instance of a cell or a module. It takes 40 bytes.
 #[derive(Drop)]
 pub struct Instance {
     /// The instance's name.

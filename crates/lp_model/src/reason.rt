@@ -14,7 +14,8 @@ pub enum Reason {
     Direction,
     /// A related pin is missing, or names no pg_pin, a bias pin or a pg_pin of the other kind.
     Related,
-    /// An output without a function, or an expression that does not read or has a name that it may not have.
+    /// An output without a function, or an expression that does not read, has a name that it may not have or, of a
+    /// switched pg_pin, is another than one pg_pin.
     Function,
     /// A voltage range that does not read.
     Range,

@@ -1,5 +1,5 @@
 use crate::ids::{EdgeId, NodeId, OriginId};
-use crate::intent::{DeclaredState, ScopedName};
+use crate::intent::{DeclaredState, RowState, ScopedName};
 use sqlite_items::Items;
 
 /// What feeds a supply.
@@ -49,8 +49,8 @@ pub struct SetOrigins {
 /// A row of the state table (IEEE 1801-2015 add_pst_state).
 #[derive(Drop)]
 pub struct Row {
-    /// For each origin its listed state; none where the row leaves it free.
-    pub states: Items<Option<DeclaredState>>,
+    /// What it gives each origin.
+    pub states: Items<RowState>,
 }
 
 /// The supply network of a design.

@@ -17,6 +17,7 @@ fn tables_are_small(rt: HostRuntime) {
     assert_eq!(rt; size_of::<SideWinners>(), 8);
     assert_eq!(rt; size_of::<Operator>(), 20);
     assert_eq!(rt; size_of::<UpfWord>(), 16);
+    assert_eq!(rt; size_of::<RowState>(), 16);
 }
 
 #[test]
