@@ -67,7 +67,7 @@ pub through-off : (n : Network) (i : Intent) (A : Assignment) (r : Option SetNum
 through-off n i A r v [] lost off = lost off
 through-off n i A r v (Clamp t s ∷ operators) lost off =
     through-off n i A (Some s) (kept (set_on n A (Some s)) (clamped A (slice_get i.strategies t) v)) operators
-        (λ h. kept-off (set_on n A (Some s)) (clamped A (slice_get i.strategies t) v) h) off
+    (λ h. kept-off (set_on n A (Some s)) (clamped A (slice_get i.strategies t) v) h) off
 through-off n i A r v (Shift t a b ∷ operators) lost off =
     through-off n i A (Some b) (kept (set_on n A (Some a) && set_on n A (Some b)) v) operators
-        (λ h. kept-off (set_on n A (Some a) && set_on n A (Some b)) v (and-off (set_on n A (Some a)) (set_on n A (Some b)) h)) off
+    (λ h. kept-off (set_on n A (Some a) && set_on n A (Some b)) v (and-off (set_on n A (Some a)) (set_on n A (Some b)) h)) off

@@ -1,2 +1,3 @@
 mod Computed
 pub mod DesignLaws
+pub mod Looks

@@ -7,3 +7,4 @@ pub mod Netlists
 pub mod Samples
 pub mod Settled
 pub mod Winners
+pub mod Reads

@@ -52,13 +52,16 @@ abbrev pub is_on : SupplyState → Bool
 is_on (On v) = true
 is_on _ = false
 
+abbrev pub both_on : Assignment → Option SupplySet → Bool
+both_on A None = false
+both_on A (Some s) = is_on (state_of A s.power) && is_on (state_of A s.gnd)
+
+abbrev pub set_at : Network → Option SetNumber → Option SupplySet
+set_at n k = option_and_then (λ x. slice_get n.sets x) k
+
 -- a set is on where its power and its ground are on
 abbrev pub set_on : Network → Assignment → Option SetNumber → Bool
-set_on n A k = by (option_and_then (λ x. slice_get n.sets x) k)
-  where
-    by : Option SupplySet → Bool
-    by None = false
-    by (Some s) = is_on (state_of A s.power) && is_on (state_of A s.gnd)
+set_on n A k = both_on A (set_at n k)
 
 -- a value that is lost where a supply is not on
 abbrev pub kept : Bool → Tern → Tern
@@ -77,13 +80,16 @@ is_under n A r t = set_on n A r && (set_on n A t && nat_lt (voltage r + n.margin
 
 -- ---- operators
 
+abbrev pub sensed : Bool → Tern → Tern
+sensed high v = if high then v else negate_of v
+
+abbrev pub active_at : Assignment → Bool → Option Node → Tern
+active_at A high None = X
+active_at A high (Some k) = sensed high (at A k)
+
 -- whether a strategy's control is active
 abbrev pub active : Assignment → Strategy → Tern
-active A t = by t.control
-  where
-    by : Option Node → Tern
-    by None = X
-    by (Some k) = if t.high then at A k else negate_of (at A k)
+active A t = active_at A t.high t.control
 
 abbrev pub clamped : Assignment → Option Strategy → Tern → Tern
 clamped A None v = X
@@ -97,33 +103,52 @@ through n i A v (Shift t a b ∷ operators) = through n i A (kept (set_on n A (S
 
 -- ---- cells
 
+abbrev pub pin_named : CellView → Name → Option PinView
+pin_named c v = first (λ (q : PinView). bytes_eq q.name v) c.pins
+
+abbrev pub state_named : Option StateView → Bool → Name → Tern
+state_named (Some s) bit v = if bytes_eq s.var v then known bit else if bytes_eq s.inverse v then known (not bit) else X
+state_named None bit v = X
+
+abbrev pub value_named : Option PinView → Tern → Tern → Tern
+value_named (Some q) pin state = pin
+value_named None pin state = state
+
 -- the value of a name in a cell: a pin's, else the state bit's or its complement
 abbrev pub named_value : CellView → (Name → Tern) → Bool → Name → Tern
-named_value c pins bit v = by (first (λ (q : PinView). bytes_eq q.name v) c.pins) c.state
-  where
-    by : Option PinView → Option StateView → Tern
-    by (Some q) s = pins v
-    by None (Some s) = if bytes_eq s.var v then known bit else if bytes_eq s.inverse v then known (not bit) else X
-    by None None = X
+named_value c pins bit v = value_named (pin_named c v) (pins v) (state_named c.state bit v)
 
 -- the value on which all replacements of unknown pins and of an unknown state bit agree, else X
 abbrev pub function_value : CellView → (Name → Tern) → Tern → ExprView → Tern
 function_value c pins q e = agreed (flat_map (λ bit. map (truth e.steps) (completions (map (named_value c pins bit) e.variables))) (replacements q))
 
+-- the node at a pin of a cell instance
+abbrev pub node_at_pin : Structure → Path → Name → Name → Option Node
+node_at_pin s p x q = option_and_then (λ m. option_and_then (λ (i : InstanceView). pin_node p q i.connections) (instance_named m x)) (module_at s p)
+
+abbrev pub at_some : Assignment → Option Node → Tern
+at_some A None = X
+at_some A (Some k) = at A k
+
 -- what the pins of a cell instance read
 abbrev pub pins_at : Structure → Assignment → Path → Name → Name → Tern
-pins_at s A p x q = unwrap_or (option_and_then (λ m. option_and_then (λ (i : InstanceView). option_and_then (λ k. Some (at A k)) (pin_node p q i.connections)) (instance_named m x)) (module_at s p)) X
+pins_at s A p x q = at_some A (node_at_pin s p x q)
 
 -- the states of registers, by path
 abbrev pub Registers : Type 0
 Registers = Path → Name → Tern
 
-abbrev pub output_value : CellView → (Name → Tern) → Tern → Name → Tern
-output_value c pins state q = by (option_and_then (λ (x : PinView). x.function) (first (λ (x : PinView). bytes_eq x.name q) c.pins))
-  where
-    by : Option ExprView → Tern
-    by None = X
-    by (Some e) = function_value c pins state e
+abbrev pub function_of : CellView → Name → Option ExprView
+function_of c q = option_and_then (λ (x : PinView). x.function) (pin_named c q)
+
+abbrev pub output_by : CellView → (Name → Tern) → Tern → Option ExprView → Tern
+output_by c pins state None = X
+output_by c pins state (Some e) = function_value c pins state e
+
+-- an output pin of a cell instance
+abbrev pub output_of : Structure → Assignment → Registers → Path → Name → Name → Option CellView → Tern
+output_of s A regs p x q None = X
+output_of s A regs p x q (Some c) = output_by c (pins_at s A p x) (regs p x) (function_of c q)
 
 -- ---- equations
 
@@ -146,14 +171,14 @@ node_equation d ev regs A (Outer n j) (Some Environment) = kept (set_on d.networ
 node_equation d ev regs A k (Some Environment) = X
 node_equation d ev regs A k (Some (CellPin p x q)) =
     kept (set_on d.network A (primary_of d.intent (domain_of d.intent p)))
-    (unwrap_or (option_and_then (λ c. Some (output_value c (pins_at d.structure A p x) (regs p x) q)) (cell_at d.structure p x)) X)
+    (output_of d.structure A regs p x q (cell_at d.structure p x))
 node_equation d ev regs A k (Some (From w j)) = through d.network d.intent A (at A j) (operators_at d.structure d.network d.intent d.fuel w (rail d.structure d.network d.intent d.fuel j))
 
 -- a switch passes its input where its control is on, else it is off
 abbrev pub origin_equation : Event → Assignment → ℕ → Option Origin → SupplyState
 origin_equation ev A o None = Unknown
 origin_equation ev A o (Some FromPort) = ev.supplies o
-origin_equation ev A o (Some (FromSwitch input k high)) = choose_supply_of (if high then at A k else negate_of (at A k)) (state_of A input) Off
+origin_equation ev A o (Some (FromSwitch input k high)) = choose_supply_of (sensed high (at A k)) (state_of A input) Off
 
 abbrev pub equation : Design → Event → Registers → Key → Assignment → Value
 equation d ev regs (At k) A = Logic (node_equation d ev regs A k (source_of d.structure k))

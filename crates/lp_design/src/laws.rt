@@ -7,7 +7,9 @@ ghost use Rattle.lp_model.specs.declared.intent.StrategyKind.{StrategyKind};
 ghost use Rattle.lp_design.specs.Intents.{SetNumber, Strategy, Intent, Network};
 ghost use Rattle.lp_design.specs.Winners.{Crossing, IsIn, applying, rank, winner};
 ghost use Rattle.lp_design.specs.Chains.{Operator, Clamp, by_rule, clamp_of, part, rail_after, target};
-ghost use Rattle.lp_design.specs.Settled.{Assignment, active, known, set_on, through};
+ghost use Rattle.lp_settling.specs.Settling.{IsOrder, Covers, SettlesOnce};
+ghost use Rattle.lp_design.specs.Settled.{Assignment, Design, Event, Key, Registers, active, equation, known, set_on, through};
+ghost use Rattle.lp_design.specs.Reads.{keys, reads};
 
 /// A winner is the only strategy of its rank among those of its kind that apply to the side.
 pub fn winner_is_alone()
@@ -33,4 +35,9 @@ pub fn active_clamp_holds()
 /// not on.
 pub fn lost_behind_an_off_supply()
     ensures { (n : Network) (i : Intent) (A : Assignment) (r : Option SetNumber) (v : Tern) (operators : List Operator) → (set_on n A r ≡ false → v ≡ X) → set_on n A (rail_after r operators) ≡ false → through n i A v operators ≡ X }
+{}
+
+/// Where all that occurs in the equations under intent has an order, exactly one assignment settles.
+pub fn settles_once()
+    ensures { (d : Design) (event : Event) (registers : Registers) (order : List Key) → IsOrder keys (reads d) order → Covers keys (reads d) order → SettlesOnce (equation d event registers) }
 {}
