@@ -1,14 +1,14 @@
 -- The definitions computed on the small designs.
-use Rattle.std.proofs.Common.{◌≡◌, true, [], ◌∷◌, Option, Some, None, refl}
+use Rattle.std.proofs.Common.{◌≡◌, List, true, false, [], ◌∷◌, Option, Some, None, refl}
 use Rattle.std.specs.Prelude.{ℕ, ◌==◌, bytes_eq, if◌then◌else◌, codes, map, option_and_then}
 use Rattle.lp_model.specs.declared.side.Side.TheVariants.{Upper}
 use Rattle.lp_model.specs.declared.intent.Applies.TheVariants.{Inputs, Outputs, Both}
 use Rattle.lp_model.specs.declared.intent.StrategyKind.TheVariants.{Isolation}
-use Rattle.lp_design.specs.Keys.{Outer, Way, PortBit}
+use Rattle.lp_design.specs.Keys.{Inner, Name, Outer, Way, PortBit}
 use Rattle.lp_design.specs.Netlists.{Structure}
 use Rattle.lp_design.specs.Graph.{readers_of, InputPin}
 use Rattle.lp_model.specs.declared.netlist.Direction.TheVariants.{Input, Output}
-use Rattle.lp_design.specs.Intents.{Intent, AtInstance, AtPort, AtBit}
+use Rattle.lp_design.specs.Intents.{Element, Intent, AtInstance, AtPort, AtBit}
 use Rattle.lp_design.specs.Winners.{Crossing, crossing, winner, applying, is_tied}
 use Rattle.lp_design.specs.Domains.{BoundaryBit, way_of, boundary}
 use Rattle.lp_design.specs.Chains.{Clamp, Shift, operators_at, rail}
@@ -16,8 +16,11 @@ use Rattle.lp_tern.specs.declared.tern.Tern.{Tern}
 use Rattle.lp_tern.specs.declared.tern.Tern.TheVariants.{Zero, One, X}
 use Rattle.lp_tern.specs.declared.supply.SupplyState.{SupplyState}
 use Rattle.lp_tern.specs.declared.supply.SupplyState.TheVariants.{On, Off, Unknown}
-use Rattle.lp_design.specs.Settled.{Design, Event, Registers, output, computed}
-use Rattle.lp_design.specs.Samples.{plain, wide, wide_output, by_supply, with_strategies, isolation, shifting, network, switched, switched_network, volts, port}
+use Rattle.lp_design.specs.Settled.{Key, At, Of, Design, Event, Registers, output, computed}
+use Rattle.lp_design.specs.Samples.{plain, switched_from_inside, read_inside, fed_through, wide, wide_output, by_supply, with_strategies, isolation, shifting, network, switched, switched_network, volts, port}
+use Rattle.lp_settling.specs.Settling.{has, IsOrder, Reaches}
+use Rattle.lp_settling.specs.Laws.{order-no_loop}
+use Rattle.lp_design.specs.Reads.{keys, reads}
 
 bits_in_order : map way_of (boundary plain (with_strategies [])) ≡ PortBit [] (codes "a") None ∷ PortBit [] (codes "en") None ∷ PortBit [] (codes "y") None ∷ PortBit (codes "u" ∷ []) (codes "i") None ∷ PortBit (codes "u" ∷ []) (codes "o") None ∷ []
 bits_in_order = refl
@@ -159,3 +162,64 @@ control_active = refl
 
 control_inactive : switched_y One ≡ X
 control_inactive = refl
+
+-- ---- readers inside the block read what comes before the clamp
+
+abbrev inside : Design
+inside = record { structure = read_inside; network = network (volts 1000000 1000000 800000); intent = with_strategies (isolation 1 (Some (AtPort (codes "u" ∷ []) (codes "o") ∷ [])) Outputs ∷ []); fuel = 12 }
+
+abbrev inside_at : Name → Tern
+inside_at n = output inside (computed inside (event Zero One (On 1000000)) no_registers 12) n None None
+
+outside_is_clamped : inside_at (codes "y") ≡ Zero
+outside_is_clamped = refl
+
+inside_is_not : inside_at (codes "z") ≡ Zero
+inside_is_not = refl
+
+-- ---- an input that is driven by the block's supply, and no strategy
+
+abbrev driven : Design
+driven = record { structure = plain; network = network (volts 1000000 1200000 800000); intent = record (with_strategies []) { drivers = record { port = codes "a"; supply = 1 } ∷ [] }; fuel = 8 }
+
+abbrev driven_y : Tern → SupplyState → Tern
+driven_y a block = output driven (computed driven (event a Zero block) no_registers 8) (codes "y") None None
+
+complement_of_zero : driven_y Zero (On 1200000) ≡ One
+complement_of_zero = refl
+
+complement_of_one : driven_y One (On 1200000) ≡ Zero
+complement_of_one = refl
+
+-- ---- a strategy that inserts nothing
+
+abbrev kept_open : Element → Intent
+kept_open e = with_strategies (record (isolation 1 (Some (e ∷ [])) Outputs) { inserts = false } ∷ [])
+
+not_isolated : y (kept_open (AtPort (codes "u" ∷ []) (codes "o"))) (event Zero One Off) ≡ X
+not_isolated = refl
+
+abbrev fed : Design
+fed = record { structure = fed_through; network = network (volts 1000000 1000000 800000); intent = kept_open (AtPort (codes "u" ∷ []) (codes "t")); fuel = 12 }
+
+-- what an assign feeds through the block does not need the block's supply
+passes_a_block_that_is_off : map (λ a. output fed (computed fed (event a Zero Off) no_registers 12) (codes "z") None None) (Zero ∷ One ∷ X ∷ []) ≡ Zero ∷ One ∷ X ∷ []
+passes_a_block_that_is_off = refl
+
+open_port_has_no_operator : operators_at fed_through (network (volts 1000000 1000000 800000)) clamped 12 (PortBit (codes "u" ∷ []) (codes "open") None) None ≡ []
+open_port_has_no_operator = refl
+
+-- ---- a switch whose control comes from the block that it supplies
+
+abbrev looped : Design
+looped = record { structure = switched_from_inside; network = switched_network; intent = with_strategies []; fuel = 12 }
+
+abbrev control : Key
+control = At (Inner (codes "sl") None [])
+
+-- the control reads the block's output, which reads the switch, which reads the control
+control_reaches_itself : Reaches keys (reads looped) control control
+control_reaches_itself = (At (Inner (codes "q") None (codes "u" ∷ [])) ∷ Of 1 ∷ [], (refl, (refl, refl)))
+
+no_order : (order : List Key) → IsOrder keys (reads looped) order → has keys control order ≡ true → ⊥
+no_order order o h = order-no_loop keys (reads looped) order o control h control_reaches_itself

@@ -83,6 +83,59 @@ switched_top = record top {
 abbrev pub switched : Structure
 switched = record { modules = switched_top ∷ core ∷ []; cells = inverter ∷ buffer ∷ register ∷ [] }
 
+-- the same with an inverter behind the output of the block, in the block, whose output is the top's z
+abbrev pub read_inside : Structure
+read_inside = record {
+  modules =
+      record top {
+        ports = port (codes "z") Output None ∷ top.ports;
+        instances =
+            record { name = codes "u"; target = codes "core"; connections = ByName (to (codes "i") (NetBit (codes "a")) ∷ to (codes "o") (NetBit (codes "n")) ∷ to (codes "p") (NetBit (codes "z")) ∷ []) }
+            ∷ record { name = codes "b"; target = codes "BUF"; connections = ByName (to (codes "A") (NetBit (codes "n")) ∷ to (codes "Y") (NetBit (codes "y")) ∷ []) }
+            ∷ [];
+      }
+      ∷ record core {
+        ports = port (codes "p") Output None ∷ core.ports;
+        instances = record { name = codes "h"; target = codes "INV"; connections = ByName (to (codes "A") (NetBit (codes "o")) ∷ to (codes "Y") (NetBit (codes "p")) ∷ []) } ∷ core.instances;
+      }
+      ∷ [];
+  cells = inverter ∷ buffer ∷ [];
+}
+
+-- the same with an output t of the block that an assign feeds from its input, and an output that nothing is connected to
+abbrev pub fed_through : Structure
+fed_through = record {
+  modules =
+      record top {
+        ports = port (codes "z") Output None ∷ top.ports;
+        instances =
+            record { name = codes "u"; target = codes "core"; connections = ByName (to (codes "i") (NetBit (codes "a")) ∷ to (codes "o") (NetBit (codes "n")) ∷ to (codes "t") (NetBit (codes "z")) ∷ []) }
+            ∷ record { name = codes "b"; target = codes "BUF"; connections = ByName (to (codes "A") (NetBit (codes "n")) ∷ to (codes "Y") (NetBit (codes "y")) ∷ []) }
+            ∷ [];
+      }
+      ∷ record core {
+        ports = port (codes "open") Output None ∷ port (codes "t") Output None ∷ core.ports;
+        assigns = record { left = NetBit (codes "t") ∷ []; right = NetBit (codes "i") ∷ [] } ∷ [];
+      }
+      ∷ [];
+  cells = inverter ∷ buffer ∷ [];
+}
+
+-- the same with a register in the block whose output is the net sl of the top
+abbrev pub switched_from_inside : Structure
+switched_from_inside = record {
+  modules =
+      record switched_top {
+        instances = record { name = codes "u"; target = codes "core"; connections = ByName (to (codes "i") (NetBit (codes "a")) ∷ to (codes "o") (NetBit (codes "n")) ∷ to (codes "q") (NetBit (codes "sl")) ∷ []) } ∷ [];
+      }
+      ∷ record core {
+        ports = port (codes "q") Output None ∷ core.ports;
+        instances = record { name = codes "k"; target = codes "DFF"; connections = ByName (to (codes "D") (NetBit (codes "i")) ∷ to (codes "CK") (NetBit (codes "i")) ∷ to (codes "Q") (NetBit (codes "q")) ∷ []) } ∷ core.instances;
+      }
+      ∷ [];
+  cells = inverter ∷ buffer ∷ register ∷ [];
+}
+
 -- the same with an output of two bits, both of which are read
 abbrev pub wide_output : PortView
 wide_output = port (codes "o") Output (Some (record { left = 1; right = 0 }))
