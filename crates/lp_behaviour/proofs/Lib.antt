@@ -1,0 +1,4 @@
+pub mod Replacing
+pub mod Filling
+pub mod Usability
+pub mod RegisterLaws
