@@ -94,6 +94,6 @@ pub never_both : (cell : Cell) (g : StateGroup) (pins : List Tern) (state : Tern
     → function_value cell pins state (both g) ≡ Zero
 never_both cell g pins state has apart no_pin no_inverse_pin =
     let at : (bit : Bool) → value_of (both g) (variable_values cell pins bit (both g)) ≡ Zero =
-        λ bit. both-is (signal_value cell pins bit g.var) (signal_value cell pins bit g.inverse) bit g (at-var cell g pins bit has no_pin) (at-inverse cell g pins bit has apart no_inverse_pin) in
+    λ bit. both-is (signal_value cell pins bit g.var) (signal_value cell pins bit g.inverse) bit g (at-var cell g pins bit has no_pin) (at-inverse cell g pins bit has apart no_inverse_pin) in
     by_bit cell pins state (both g)
     ∙ either state (value_of (both g) (variable_values cell pins true (both g))) (value_of (both g) (variable_values cell pins false (both g))) (at true) (at false)

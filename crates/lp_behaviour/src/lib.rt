@@ -11,8 +11,11 @@ mod usable;
 pub use control::{copy_next, fires, main_next};
 pub use function::{cell_output, power_down_value};
 pub use laws::{
-    cleared_is_zero, disabled_latch_keeps, idle_restore_leaves, inverse_is_complement, still_flop_keeps, value_by_bit,
+    cleared_is_zero, disabled_latch_keeps, idle_restore_leaves, inverse_is_complement,
+    still_flop_keeps, value_by_bit,
 };
 pub use register::state_next;
 pub use usable::is_usable;
 
+#[cfg(test)]
+mod tests;
