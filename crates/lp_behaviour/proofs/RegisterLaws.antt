@@ -1,5 +1,5 @@
 -- Laws of registers.
-use Rattle.std.proofs.Common.{◌≡◌, ◌≢◌, Bool, true, false, not, cond, List, [], ◌∷◌, Option, Some, None, refl, sym, ap, ◌∙◌, subst, eqb, ne_eqb, eq-eqb}
+use Rattle.std.proofs.Common.{◌≡◌, ◌≢◌, Bool, true, false, not, cond, List, [], ◌∷◌, Some, None, refl, ap, ◌∙◌, eqb, ne_eqb, eq-eqb}
 use Rattle.lp_tern.specs.declared.tern.Tern.{Tern}
 use Rattle.lp_tern.specs.declared.tern.Tern.TheVariants.{Zero, One, X}
 use Rattle.lp_tern.specs.Values.{choose_of, rise_of}

@@ -1,11 +1,11 @@
 -- The value of a function by the values that it has at each bit of the state.
-use Rattle.std.proofs.Common.{◌≡◌, Bool, true, false, not, ◌&&◌, cond, List, [], ◌∷◌, ◌++◌, Option, Some, None, map, refl, sym, ap, ◌∙◌}
+use Rattle.std.proofs.Common.{◌≡◌, Bool, true, false, not, ◌&&◌, cond, List, [], ◌∷◌, ◌++◌, Option, None, map, refl, sym, ap, ◌∙◌}
 use Rattle.std.specs.List.{list_all}
 use Rattle.std.proofs.lemmas.List.{append-nil}
 use Rattle.std.proofs.lemmas.List.Folds.{list_all-append}
 use Rattle.lp_tern.specs.declared.tern.Tern.{Tern}
 use Rattle.lp_tern.specs.declared.tern.Tern.TheVariants.{Zero, One, X}
-use Rattle.lp_tern.specs.Values.{agreed, choose_of, is_same}
+use Rattle.lp_tern.specs.Values.{agreed, choose_of}
 use Rattle.lp_expr.specs.Formula.{Formula, truth, completions, value_of}
 use Rattle.lp_model.specs.declared.library.Cell.{Cell}
 use Rattle.lp_model.specs.declared.library.StateGroup.{StateGroup}

@@ -1,13 +1,13 @@
 -- What stands of the parts of a cell that may be used.
-use Rattle.std.proofs.Common.{◌≡◌, ℕ, zero, suc, ◌≤◌, Bool, true, ◌&&◌, List, [], ◌∷◌, Option, Some, None, length, ◌↔◌}
-use Rattle.std.specs.Prelude.{slice_get, nat_le}
+use Rattle.std.proofs.Common.{◌≡◌, ℕ, zero, suc, ◌≤◌, Bool, true, List, [], ◌∷◌, Some, length, ◌↔◌}
+use Rattle.std.specs.Prelude.{slice_get}
 use Rattle.std.specs.List.{list_all}
 use Rattle.std.proofs.lemmas.Bool.{and_parts, and_from, le-leb, leb-true}
 use Rattle.lp_text.specs.declared.names.NameId.{NameId}
 use Rattle.lp_expr.specs.Formula.{Formula}
 use Rattle.lp_model.specs.declared.library.Cell.{Cell}
 use Rattle.lp_model.specs.declared.library.Pin.{Pin}
-use Rattle.lp_behaviour.specs.Usable.{is_signal, is_function, is_pg, is_function_if_any, is_usable_pg, is_usable_pin, is_usable_state, passes, IsUsable}
+use Rattle.lp_behaviour.specs.Usable.{is_signal, is_function, is_usable_pin, passes, IsUsable}
 
 -- what passes at each element passes at a place
 all-at : {A : Type 0} (p : A → Bool) (xs : List A) (i : ℕ) (x : A) → list_all p xs ≡ true → slice_get xs i ≡ Some x → p x ≡ true

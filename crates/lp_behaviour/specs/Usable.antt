@@ -1,5 +1,5 @@
 -- What stands of every cell that may be used (own rule, after the limits of the tool).
-use Rattle.std.specs.Prelude.{ℕ, Bool, true, false, ◌&&◌, ◌||◌, ◌==◌, ◌≤◌, is_some, nat_lt, nat_le, List, Option, Some, None, length, IsTrue}
+use Rattle.std.specs.Prelude.{ℕ, Bool, true, false, ◌&&◌, ◌||◌, ◌==◌, ◌≤◌, is_some, nat_lt, nat_le, Option, Some, None, length, IsTrue}
 use Rattle.std.specs.List.{list_all}
 use Rattle.lp_text.specs.declared.names.NameId.{NameId}
 use Rattle.lp_expr.specs.Formula.{Formula}

@@ -1,15 +1,16 @@
 //! Laws about the definitions alone: each is the clause of a function that does nothing.
-ghost use Rattle.std.specs.Prelude.{◌≡◌, ◌≢◌, Bool, true, false, List, [], ◌∷◌, Some, None};
+ghost use Rattle.std.specs.Prelude.{◌≡◌, ◌≢◌, ◌↔◌, All, Bool, true, false, List, [], ◌∷◌, Some, None};
 ghost use Rattle.lp_tern.specs.declared.tern.Tern.{Tern};
-ghost use Rattle.lp_tern.specs.declared.tern.Tern.TheVariants.{Zero, One};
+ghost use Rattle.lp_tern.specs.declared.tern.Tern.TheVariants.{Zero, One, X};
 ghost use Rattle.lp_tern.specs.Values.{choose_of};
 ghost use Rattle.lp_expr.specs.declared.step.Step.TheVariants.{Variable, And};
-ghost use Rattle.lp_expr.specs.Formula.{Formula, value_of};
+ghost use Rattle.lp_expr.specs.Formula.{Formula, truth, value_of};
+ghost use Rattle.lp_expr.specs.Replaces.{Keeps, Replaces};
 ghost use Rattle.lp_model.specs.declared.library.Action.{Action};
 ghost use Rattle.lp_model.specs.declared.library.Cell.{Cell};
 ghost use Rattle.lp_model.specs.declared.library.StateGroup.{StateGroup};
 ghost use Rattle.lp_model.specs.declared.library.StateKind.TheVariants.{Flop, Latch};
-ghost use Rattle.lp_behaviour.specs.Signals.{known, pin_place};
+ghost use Rattle.lp_behaviour.specs.Signals.{at_place, known, pin_place};
 ghost use Rattle.lp_behaviour.specs.Functions.{function_value, variable_values};
 ghost use Rattle.lp_behaviour.specs.Registers.{fires_of, main_of, next_value};
 
@@ -58,4 +59,29 @@ pub fn cleared_is_zero()
 pub fn idle_restore_leaves()
     ensures { (action : Action) (last now v without : Tern)
         → fires_of action last now ≡ Zero → main_of (fires_of action last now) v without ≡ without }
+{}
+
+/// A function is 1 exactly where every replacement of unknown pins and of the one state bit makes it true.
+pub fn always_true()
+    ensures { (cell : Cell) (pins : List Tern) (state : Tern) (e : Formula)
+        → (function_value cell pins state e ≡ One)
+        ↔ ((bit : Bool) (c : List Bool) → Keeps state bit → Replaces (variable_values cell pins bit e) c → truth e.steps c ≡ true) }
+{
+    lp_expr::always_one();
+}
+
+/// A function is 0 exactly where every replacement of unknown pins and of the one state bit makes it false.
+pub fn always_false()
+    ensures { (cell : Cell) (pins : List Tern) (state : Tern) (e : Formula)
+        → (function_value cell pins state e ≡ Zero)
+        ↔ ((bit : Bool) (c : List Bool) → Keeps state bit → Replaces (variable_values cell pins bit e) c → truth e.steps c ≡ false) }
+{
+    lp_expr::always_zero();
+}
+
+/// A function depends on the values of the pins that it names alone.
+pub fn named_pins_decide()
+    ensures { (cell : Cell) (a b : List Tern) (state : Tern) (e : Formula)
+        → All (λ name. at_place a (pin_place cell.pins name) X ≡ at_place b (pin_place cell.pins name) X) e.variables
+        → function_value cell a state e ≡ function_value cell b state e }
 {}

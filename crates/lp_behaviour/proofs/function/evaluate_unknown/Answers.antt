@@ -1,4 +1,3 @@
-use Rattle.std.proofs.Common.{sym}
 use Rattle.lp_tern.specs.declared.tern.Tern.TheVariants.{X}
 use Rattle.lp_behaviour.proofs.Replacing.{by_bit}
 use Rattle.lp_behaviour.proofs.function.evaluate_unknown.Goals as goal
