@@ -9,7 +9,7 @@ use Rattle.lp_design.specs.Netlists.{Structure}
 use Rattle.lp_design.specs.Graph.{readers_of, InputPin}
 use Rattle.lp_model.specs.declared.netlist.Direction.TheVariants.{Input, Output}
 use Rattle.lp_design.specs.Intents.{Element, Intent, AtInstance, AtPort, AtBit}
-use Rattle.lp_design.specs.Winners.{Crossing, crossing, winner, applying, is_tied}
+use Rattle.lp_design.specs.Winners.{Crossing, crossing, winner, applying, is_tied, rank}
 use Rattle.lp_design.specs.Domains.{BoundaryBit, way_of, boundary}
 use Rattle.lp_design.specs.Chains.{Clamp, Shift, operators_at, rail}
 use Rattle.lp_tern.specs.declared.tern.Tern.{Tern}
@@ -77,7 +77,7 @@ out = record { path = codes "u" ∷ []; port = port (codes "o") Output None; ind
 none_wins : winner (network (volts 1000000 1000000 800000)) tie Isolation Upper (crossing_in plain tie out) ≡ None
 none_wins = refl
 
-both_tied : map (λ x. is_tied out (applying (network (volts 1000000 1000000 800000)) tie Isolation Upper (crossing_in plain tie out)) x) (applying (network (volts 1000000 1000000 800000)) tie Isolation Upper (crossing_in plain tie out)) ≡ true ∷ true ∷ []
+both_tied : map (λ x. is_tied (rank out) (applying (network (volts 1000000 1000000 800000)) tie Isolation Upper (crossing_in plain tie out)) x) (applying (network (volts 1000000 1000000 800000)) tie Isolation Upper (crossing_in plain tie out)) ≡ true ∷ true ∷ []
 both_tied = refl
 
 -- ---- an output of two bits, and strategies from a bit down to the whole domain

@@ -9,8 +9,7 @@ use Rattle.lp_tern.specs.declared.tern.Tern.TheVariants.{One, X}
 use Rattle.lp_tern.specs.Values.{choose_of}
 use Rattle.lp_design.specs.Intents.{SetNumber, Strategy, Intent, Network}
 use Rattle.lp_design.specs.Settled.{Assignment, active, clamped, kept, known, set_on, through}
-use Rattle.lp_design.specs.Domains.{BoundaryBit}
-use Rattle.lp_design.specs.Winners.{IsIn, beats_all, rank, winner_among}
+use Rattle.lp_design.specs.Winners.{IsIn, beats_all, winner_among}
 use Rattle.lp_design.specs.Chains.{Operator, Clamp, Shift, supply_behind, rail_after}
 
 -- what is found passes the test
@@ -34,12 +33,12 @@ all_pass p (x ∷ xs) y h among = elim among [ inl is ↦ ap p is ∙ head (p x)
     tail true b e = e
     tail false b e = absurd (true≢false (sym e))
 
-pub winner_alone : (b : BoundaryBit) (all : List (ℕ × Strategy)) (x y : ℕ × Strategy) → winner_among b all ≡ Some x → IsIn y all → rank b y.1 ≡ rank b x.1 → y.0 ≡ x.0
-winner_alone b all x y e among same =
-    let beats = all_pass (λ z. (z.0 == x.0) || nat_lt (rank b z.1) (rank b x.1)) all y (first_passes (beats_all b all) all x e) among in
-    elim (or_cases (y.0 == x.0) (nat_lt (rank b y.1) (rank b x.1)) beats) [
+pub winner_alone : (ranked : Strategy → ℕ) (all : List (ℕ × Strategy)) (x y : ℕ × Strategy) → winner_among ranked all ≡ Some x → IsIn y all → ranked y.1 ≡ ranked x.1 → y.0 ≡ x.0
+winner_alone ranked all x y e among same =
+    let beats = all_pass (λ z. (z.0 == x.0) || nat_lt (ranked z.1) (ranked x.1)) all y (first_passes (beats_all ranked all) all x e) among in
+    elim (or_cases (y.0 == x.0) (nat_lt (ranked y.1) (ranked x.1)) beats) [
       | inl is ↦ eqb-true y.0 x.0 is
-      | inr less ↦ let under : rank b y.1 < rank b x.1 = ltb-true (rank b y.1) (rank b x.1) less in absurd (omega arith)
+      | inr less ↦ let under : ranked y.1 < ranked x.1 = ltb-true (ranked y.1) (ranked x.1) less in absurd (omega arith)
     ]
 
 pub rail_after-append : (r : Option SetNumber) (xs ys : List Operator) → rail_after r (xs ++ ys) ≡ rail_after (rail_after r xs) ys

@@ -8,3 +8,4 @@ pub mod Samples
 pub mod Settled
 pub mod Winners
 pub mod Reads
+pub mod Registers

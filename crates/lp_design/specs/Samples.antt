@@ -1,9 +1,10 @@
 -- Small designs on which the definitions are computed: a top with one block, whose output a gate reads.
-use Rattle.std.specs.Prelude.{ℕ, ◌+◌, nat_lt, ◌==◌, true, false, List, [], ◌∷◌, Option, Some, None, codes, if◌then◌else◌}
+use Rattle.std.specs.Prelude.{ℕ, ◌+◌, nat_lt, ◌==◌, true, false, List, [], ◌∷◌, ◌++◌, Option, Some, None, codes, if◌then◌else◌}
 use Rattle.lp_model.specs.declared.netlist.Direction.TheVariants.{Input, Output}
 use Rattle.lp_model.specs.declared.netlist.Direction.{Direction}
 use Rattle.lp_model.specs.declared.netlist.BitRange.{BitRange}
 use Rattle.lp_model.specs.declared.library.PinUse.TheVariants as uses
+use Rattle.lp_model.specs.declared.library.Action.TheVariants.{Rise}
 use Rattle.lp_model.specs.declared.side.Location.TheVariants as locations
 use Rattle.lp_model.specs.declared.intent.Applies.{Applies}
 use Rattle.lp_model.specs.declared.intent.Applies.TheVariants as applies
@@ -119,6 +120,25 @@ fed_through = record {
       }
       ∷ [];
   cells = inverter ∷ buffer ∷ [];
+}
+
+-- the same with a register in the block in place of its inverter
+abbrev pub registered : Structure
+registered = record {
+  modules =
+      record top {
+        ports = top.ports ++ (port (codes "ck") Input None ∷ port (codes "sv") Input None ∷ port (codes "rs") Input None ∷ []);
+        instances =
+            record { name = codes "u"; target = codes "core"; connections = ByName (to (codes "i") (NetBit (codes "a")) ∷ to (codes "ck") (NetBit (codes "ck")) ∷ to (codes "o") (NetBit (codes "n")) ∷ []) }
+            ∷ record { name = codes "b"; target = codes "BUF"; connections = ByName (to (codes "A") (NetBit (codes "n")) ∷ to (codes "Y") (NetBit (codes "y")) ∷ []) }
+            ∷ [];
+      }
+      ∷ record core {
+        ports = port (codes "ck") Input None ∷ core.ports;
+        instances = record { name = codes "r"; target = codes "DFF"; connections = ByName (to (codes "D") (NetBit (codes "i")) ∷ to (codes "CK") (NetBit (codes "ck")) ∷ to (codes "Q") (NetBit (codes "o")) ∷ []) } ∷ [];
+      }
+      ∷ [];
+  cells = inverter ∷ buffer ∷ register ∷ [];
 }
 
 -- the same with a register in the block whose output is the net sl of the top
@@ -243,3 +263,13 @@ network v = record {
 -- the block's power comes through a switch from the top's, and is on where sl is 0
 abbrev pub switched_network : Network
 switched_network = record (network (volts 1000000 1000000 800000)) { origins = FromPort ∷ FromSwitch 0 (Inner (codes "sl") None []) false ∷ FromPort ∷ FromPort ∷ [] }
+
+-- a retention of the block's registers by set 2, saved as the top's net sv rises and restored as rs does
+abbrev pub retaining : Option (List Element) → Strategy
+retaining elements = record (isolation 1 elements applies.Both) {
+  kind = kinds.Retention;
+  supply = Some 2;
+  control = None;
+  save = Some (Inner (codes "sv") None [], Rise);
+  restore = Some (Inner (codes "rs") None [], Rise);
+}

@@ -144,14 +144,14 @@ abbrev pub applying : Network → Intent → StrategyKind → Side → Crossing 
 applying n i kind side c = filter (λ x. same_kind kind x.1.kind && applies n i side c x.1) (numbered 0 i.strategies)
 
 -- a winner is above each other one
-abbrev pub beats_all : BoundaryBit → List (ℕ × Strategy) → ℕ × Strategy → Bool
-beats_all b all x = list_all (λ y. (y.0 == x.0) || nat_lt (rank b y.1) (rank b x.1)) all
+abbrev pub beats_all : (Strategy → ℕ) → List (ℕ × Strategy) → ℕ × Strategy → Bool
+beats_all ranked all x = list_all (λ y. (y.0 == x.0) || nat_lt (ranked y.1) (ranked x.1)) all
 
-abbrev pub winner_among : BoundaryBit → List (ℕ × Strategy) → Option (ℕ × Strategy)
-winner_among b all = first (beats_all b all) all
+abbrev pub winner_among : (Strategy → ℕ) → List (ℕ × Strategy) → Option (ℕ × Strategy)
+winner_among ranked all = first (beats_all ranked all) all
 
 abbrev pub winner : Network → Intent → StrategyKind → Side → Crossing → Option (ℕ × Strategy)
-winner n i kind side c = winner_among c.bit (applying n i kind side c)
+winner n i kind side c = winner_among (rank c.bit) (applying n i kind side c)
 
 -- it is one of the list
 abbrev pub IsIn : {A : Type 0} → A → List A → Type 0
@@ -159,5 +159,5 @@ IsIn y [] = ⊥
 IsIn y (x ∷ xs) = (y ≡ x) ⊎ IsIn y xs
 
 -- two share the greatest rank
-abbrev pub is_tied : BoundaryBit → List (ℕ × Strategy) → ℕ × Strategy → Bool
-is_tied b all x = list_all (λ y. not (nat_lt (rank b x.1) (rank b y.1))) all && list_any (λ y. not (y.0 == x.0) && (rank b y.1 == rank b x.1)) all
+abbrev pub is_tied : (Strategy → ℕ) → List (ℕ × Strategy) → ℕ × Strategy → Bool
+is_tied ranked all x = list_all (λ y. not (nat_lt (ranked x.1) (ranked y.1))) all && list_any (λ y. not (y.0 == x.0) && (ranked y.1 == ranked x.1)) all

@@ -10,6 +10,7 @@ ghost use Rattle.lp_design.specs.Chains.{Operator, Clamp, by_rule, clamp_of, par
 ghost use Rattle.lp_settling.specs.Settling.{IsOrder, Covers, SettlesOnce};
 ghost use Rattle.lp_design.specs.Settled.{Assignment, Design, Event, Key, Registers, active, equation, known, set_on, through};
 ghost use Rattle.lp_design.specs.Reads.{keys, reads};
+ghost use Rattle.lp_design.specs.Registers.{States, RunsOnce};
 
 /// A winner is the only strategy of its rank among those of its kind that apply to the side.
 pub fn winner_is_alone()
@@ -40,4 +41,10 @@ pub fn lost_behind_an_off_supply()
 /// Where all that occurs in the equations under intent has an order, exactly one assignment settles.
 pub fn settles_once()
     ensures { (d : Design) (event : Event) (registers : Registers) (order : List Key) → IsOrder keys (reads d) order → Covers keys (reads d) order → SettlesOnce (equation d event registers) }
+{}
+
+/// Where all that occurs in the equations under intent has an order, there is exactly one run of the source over a list
+/// of events, from what settled last and from the states of its registers.
+pub fn runs_once()
+    ensures { (d : Design) (last : Assignment) (states : States) (events : List Event) (order : List Key) → IsOrder keys (reads d) order → Covers keys (reads d) order → RunsOnce d last states events }
 {}
