@@ -1,5 +1,5 @@
 -- What the rows of a state table allow (IEEE 1801-2015 create_pst, add_pst_state).
-use Rattle.std.specs.Prelude.{◌≡◌, ◌<◌, ◌+◌, ◌==◌, ℕ, zero, suc, nat_lt, Bool, true, false, not, ◌&&◌, if◌then◌else◌, List, [], ◌∷◌, length, map, Option, Some, None, slice_get, slice_index_or}
+use Rattle.std.specs.Prelude.{◌≡◌, ◌<◌, ◌+◌, ◌==◌, ℕ, zero, suc, nat_lt, Bool, true, false, not, ◌&&◌, if◌then◌else◌, List, [], ◌∷◌, length, Contains, Option, Some, None, slice_get, slice_index_or}
 use Rattle.std.specs.List.{list_any, list_all, zip}
 use Rattle.std.specs.Option.{option_map}
 use Rattle.lp_tern.specs.declared.supply.SupplyState.{SupplyState}
@@ -11,7 +11,7 @@ use Rattle.lp_model.specs.declared.intent.DeclaredState.{DeclaredState}
 use Rattle.lp_model.specs.declared.intent.DeclaredState.TheVariants.{On, Off}
 use Rattle.lp_model.specs.declared.intent.RowState.{RowState}
 use Rattle.lp_model.specs.declared.intent.RowState.TheVariants as Listed
-use Rattle.lp_rows.specs.Network.{input_by, is_some_state, port_states, root_of}
+use Rattle.lp_rows.specs.Network.{input_by, has_part, port_states, root_of}
 
 -- rows count from 1; own rule: without rows there is one row, number 0, which leaves everything free
 abbrev pub row_among : List Row → ℕ → Option (List RowState)
@@ -65,6 +65,23 @@ abbrev pub lower_in : Supplies → List RowState → ℕ → ℕ → ℕ → Boo
 lower_in s row a b d =
     not (root_of s a == root_of s b)
     && any_lower d (allowed s row (root_of s a)) (allowed s row (root_of s b))
+
+-- one allowed state for each port that has states
+abbrev pub IsChoice : Supplies → List RowState → (ℕ → DeclaredState) → Type 0
+IsChoice s row choice = (o : ℕ) → has_part s o ≡ true → Contains (allowed s row o) (choice o)
+
+-- the same over all choices: both roots have states, and in some choice they are on, the first with a number added
+-- below the second
+pub record IsLowerByChoice (s : Supplies) (row : List RowState) (a b d : ℕ) : Type 0 where
+  pub part_a : has_part s (root_of s a) ≡ true
+  pub part_b : has_part s (root_of s b) ≡ true
+  pub choice : ℕ → DeclaredState
+  pub allows : IsChoice s row choice
+  pub low : ℕ
+  pub high : ℕ
+  pub on_a : choice (root_of s a) ≡ On low
+  pub on_b : choice (root_of s b) ≡ On high
+  pub below : low + d < high
 
 -- the numbers of the ports among origins that are counted from a number
 abbrev pub ports_from : ℕ → List Origin → List ℕ

@@ -9,6 +9,7 @@ mod network;
 mod states;
 mod tuple;
 
+pub use laws::choices_say_lower;
 pub use laws::one_root_is_never_lower;
 pub use laws::ports_may_be_off;
 pub use laws::the_same_is_never_lower;
