@@ -1,5 +1,5 @@
 -- A test at each number below one.
-use Rattle.std.proofs.Common.{◌≡◌, ◌<◌, ℕ, zero, suc, Bool, true, false, ◌&&◌, ◌⊎◌, inl, inr, refl, sym, subst, ap, ◌∙◌, arith}
+use Rattle.std.proofs.Common.{◌≡◌, ◌<◌, ℕ, zero, suc, Bool, true, false, inl, inr, refl, sym, ap, ◌∙◌, arith}
 use Rattle.std.proofs.lemmas.Bool.{and_parts, and_from, and_left, and_right, cases_eq}
 use Rattle.lp_rows.specs.Leaks.{each_below}
 
@@ -13,8 +13,8 @@ pub each_below-false : (test : ℕ → Bool) (n o : ℕ) → o < n → test o �
 each_below-false test zero o below e = absurd (omega arith)
 each_below-false test (suc n) o below e =
     elim (cases_eq o n) [
-      inl same ↦ and_left (test n) (each_below test n) (sym (ap test same) ∙ e)
-    | inr other ↦ and_right (test n) (each_below test n) (each_below-false test n o (omega arith) e)
+      | inl same ↦ and_left (test n) (each_below test n) (sym (ap test same) ∙ e)
+      | inr other ↦ and_right (test n) (each_below test n) (each_below-false test n o (omega arith) e)
     ]
 
 pub each_below-from : (test : ℕ → Bool) (n : ℕ) → ((o : ℕ) → o < n → test o ≡ true) → each_below test n ≡ true

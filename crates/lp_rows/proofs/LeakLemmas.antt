@@ -1,10 +1,10 @@
 -- The test for a leak decides whether some combination has one: where one has, the combination in which each switch is on
 -- that may be has one too.
-use Rattle.std.proofs.Common.{◌≡◌, ◌<◌, ◌≤◌, ◌==◌, ◌⊎◌, ℕ, zero, suc, Bool, true, false, not, ◌&&◌, ◌||◌, eqb, List, [], ◌∷◌, length, get_or, Option, Some, None, inl, inr, refl, sym, subst, ap, ◌∙◌, cond, arith}
-use Rattle.std.specs.Prelude.{slice_get, Contains, ◌↔◌}
+use Rattle.std.proofs.Common.{◌≡◌, ◌<◌, ◌==◌, ◌⊎◌, ℕ, zero, suc, Bool, true, false, not, ◌&&◌, ◌||◌, eqb, List, [], ◌∷◌, length, Option, Some, None, inl, inr, refl, sym, subst, ap, ◌∙◌, cond, arith}
+use Rattle.std.specs.Prelude.{slice_get, Contains}
 use Rattle.std.specs.List.{list_any}
 use Rattle.std.specs.Option.{option_map_or}
-use Rattle.std.proofs.lemmas.Bool.{and_parts, and_from, cases_eq, cases_lt, cases_Bool, both_ways, or_right, eqb-true, eqb-false, eq-eqb, ne_eqb, not-true}
+use Rattle.std.proofs.lemmas.Bool.{and_parts, and_from, cases_lt, both_ways, or_right, eqb-true, eq-eqb, ne_eqb}
 use Rattle.std.proofs.lemmas.List.Folds.{list_any-from_Any}
 use Rattle.std.proofs.lemmas.Option.{slice_get_past}
 use Rattle.lp_model.specs.declared.supply.OriginKind.{OriginKind}
@@ -52,8 +52,8 @@ has_part-port s o e = port_states-kind (is_ground s o) (slice_get s.origins o) e
 pub has_part-within : (s : Supplies) (o : ℕ) → has_part s o ≡ true → o < length s.origins
 has_part-within s o e =
     elim (cases_lt o (length s.origins)) [
-      inl within ↦ within
-    | inr past ↦ absurd (no_states (slice_get_past s.origins o past))
+      | inl within ↦ within
+      | inr past ↦ absurd (no_states (slice_get_past s.origins o past))
     ]
   where
     no_states : slice_get s.origins o ≡ None → ⊥
@@ -62,8 +62,8 @@ has_part-within s o e =
 input_of-within : (s : Supplies) (o i : ℕ) → input_of s o ≡ Some i → o < length s.origins
 input_of-within s o i e =
     elim (cases_lt o (length s.origins)) [
-      inl within ↦ within
-    | inr past ↦ absurd (no_input (slice_get_past s.origins o past))
+      | inl within ↦ within
+      | inr past ↦ absurd (no_input (slice_get_past s.origins o past))
     ]
   where
     no_input : slice_get s.origins o ≡ None → ⊥
@@ -275,7 +275,7 @@ module _ (s : Supplies) (network : IsNetwork s) (row : List RowState) (a : ℕ) 
         let voltage = (agreed o (input_of-within s o i e) part).2 in
         let kept : keeps_voltage (listed row o) (together o) ≡ true = ap (λ found. option_map_or (λ i. keeps_voltage (listed row o) (together o)) found true) (sym e) ∙ voltage in
         Keeps-from (listed row o) (together o) kept (λ off.
-            ap (λ c. held c (chosen (root_of s o))) (cut_at o i e ∙ ap (λ x. (x || (o == a)) || cut i) off))
+        ap (λ c. held c (chosen (root_of s o))) (cut_at o i e ∙ ap (λ x. (x || (o == a)) || cut i) off))
 
     off_from : (x : DeclaredState) → is_state_off x ≡ true → x ≡ Off
     off_from Off e = refl

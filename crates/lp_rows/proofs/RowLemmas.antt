@@ -11,7 +11,7 @@ use Rattle.std.proofs.lemmas.Option.{slice_get_read, slice_get_within}
 use Rattle.lp_model.specs.declared.supply.Row.{Row}
 use Rattle.lp_model.specs.declared.supply.Supplies.{Supplies}
 use Rattle.lp_model.specs.declared.intent.RowState.{RowState}
-use Rattle.lp_rows.specs.Rows.{row_among, row_of, IsFirstRow, HoldsFirst}
+use Rattle.lp_rows.specs.Rows.{row_among, row_of, IsFirstRow}
 
 or_parts : (x y : Bool) → (x || y) ≡ false → (x ≡ false) × (y ≡ false)
 or_parts true y e = cc
@@ -75,11 +75,11 @@ module _ (s : Supplies) (test : List RowState → Bool) where
   first_at : (k : ℕ) (r : Row) → k < length s.rows → r ≡ get_or s.rows k r
       → list_any (passes test) (take k s.rows) ≡ false → test r.states ≡ true → IsFirstRow s (λ row. test row ≡ true) (Some (k + 1))
   first_at k r within is e passed = rw add-one (record {
-      row = r.states;
-      numbered = row_of-at s s.rows k r refl within is;
-      holds = passed;
-      first = λ m other below numbered passed_too. both_ways (test other) (none_before test s.rows k m other (omega arith) e below numbered) passed_too;
-    })
+    row = r.states;
+    numbered = row_of-at s s.rows k r refl within is;
+    holds = passed;
+    first = λ m other below numbered passed_too. both_ways (test other) (none_before test s.rows k m other (omega arith) e below numbered) passed_too;
+  })
 
   -- a loop over the rows stops at the first that passes
   pub IsFirstRow-at : (rows : List Row) (k number : ℕ) (r : Row) → rows ≡ s.rows → number ≡ k → k < length rows → r ≡ get_or rows k r

@@ -6,7 +6,6 @@ use Rattle.lp_model.specs.declared.supply.OriginKind.{OriginKind}
 use Rattle.lp_model.specs.declared.supply.OriginKind.TheVariants.{Port, Switch}
 use Rattle.lp_model.specs.declared.supply.Origin.{Origin}
 use Rattle.lp_model.specs.declared.supply.SetOrigins.{SetOrigins}
-use Rattle.lp_model.specs.declared.supply.Row.{Row}
 use Rattle.lp_model.specs.declared.supply.Supplies.{Supplies}
 use Rattle.lp_model.specs.declared.intent.DeclaredState.{DeclaredState}
 use Rattle.lp_model.specs.declared.intent.DeclaredState.TheVariants.{On, Off}

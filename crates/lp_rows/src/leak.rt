@@ -1,14 +1,16 @@
-ghost use Rattle.std.specs.Prelude.{◌≡◌, ◌==◌, ◌<◌, ◌||◌, ◌↔◌, IsTrue, length, true};
+ghost use Rattle.std.specs.Prelude.{◌≡◌, ◌<◌, length};
 ghost use Rattle.std.specs.List.{list_any};
-ghost use Rattle.lp_rows.specs.Network.{IsNetwork, has_part, root_of};
-ghost use Rattle.lp_rows.specs.Rows.{IsFirstRow, listed, allowed};
-ghost use Rattle.lp_rows.specs.Leaks.{MayLeak, is_off, is_cut, held, keeps_voltage, agrees, agrees_under, fits_with, fits, has_fit, leaks_in, each_below};
+ghost use Rattle.lp_rows.specs.Network.{IsNetwork};
+ghost use Rattle.lp_rows.specs.Rows.{IsFirstRow, listed};
+ghost use Rattle.lp_rows.specs.Leaks.{MayLeak, is_off, is_cut, held, keeps_voltage, agrees, fits_with, fits, has_fit, leaks_in, each_below};
 
 use crate::network::{input, listed_in, root, states_of_port};
 use lp_model::{DeclaredState, OriginId, RowState, Supplies};
 
 /// The first row in which some combination of states has `a` off and `b` on; none where there is no such row. Rows
-/// count from 1; where there are no rows, everything is free in a row 0. Allocates nothing.
+/// count from 1; where there are no rows, everything is free in a row 0. A row takes time in proportion to the origins
+/// and to the states of both roots, and where both have a fitting state, to the square of the origins. Allocates
+/// nothing.
 pub fn leak_row(s: &Supplies, a: OriginId, b: OriginId) -> Option<u32>
     requires network { IsNetwork s.now }
     requires first { a.0 < length s.now.origins }
@@ -17,7 +19,11 @@ pub fn leak_row(s: &Supplies, a: OriginId, b: OriginId) -> Option<u32>
 {
     let rows = s.rows.as_slice();
     if rows.is_empty() {
-        return if may_leak(s, &[], a.0, b.0) { Some(0) } else { None };
+        return if may_leak(s, &[], a.0, b.0) {
+            Some(0)
+        } else {
+            None
+        };
     }
     let mut number = 0;
     for row in rows {
@@ -100,14 +106,7 @@ fn any_fits(
 }
 
 /// Whether all that hangs on a port fits with a state of it, where each switch is on that may be.
-fn fits_at(
-    s: &Supplies,
-    row: &[RowState],
-    a: u32,
-    b: u32,
-    port: u32,
-    state: DeclaredState,
-) -> bool
+fn fits_at(s: &Supplies, row: &[RowState], a: u32, b: u32, port: u32, state: DeclaredState) -> bool
     requires { IsNetwork s.now }
     ensures { result ≡ fits_with s.now row.now a b port state }
 {
@@ -128,8 +127,8 @@ fn fits_under(
     origin: u32,
     state: DeclaredState,
 ) -> bool
-    requires { IsNetwork s.now }
-    ensures { result ≡ agrees s.now row.now a b origin (held (is_cut s.now row.now a (length s.now.origins) origin) state) }
+    ensures { result ≡ agrees s.now row.now a b origin
+        (held (is_cut s.now row.now a (length s.now.origins) origin) state) }
 {
     let state = if is_cut_off(s, row, a, origin) {
         DeclaredState::Off
@@ -159,7 +158,6 @@ fn keeps(listed: RowState, state: DeclaredState) -> bool
 
 /// Whether a switch on the way from an origin to its root is listed off, or is `a`.
 fn is_cut_off(s: &Supplies, row: &[RowState], a: u32, origin: u32) -> bool
-    requires { IsNetwork s.now }
     ensures { result ≡ is_cut s.now row.now a (length s.now.origins) origin }
 {
     let mut at = origin;

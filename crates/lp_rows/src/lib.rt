@@ -9,12 +9,13 @@ mod network;
 mod states;
 mod tuple;
 
-pub use laws::choices_say_lower;
-pub use laws::one_root_is_never_lower;
-pub use laws::ports_may_be_off;
-pub use laws::the_same_is_never_lower;
+pub use laws::{
+    choices_say_lower, one_root_is_never_lower, ports_may_be_off, the_same_is_never_lower,
+};
 pub use leak::leak_row;
 pub use lower::lower_row;
 pub use margin::under;
 pub use tuple::within;
 
+#[cfg(test)]
+mod tests;

@@ -1,10 +1,10 @@
-ghost use Rattle.std.specs.Prelude.{◌≡◌, ◌<◌, ◌≤◌, length, true};
-ghost use Rattle.lp_rows.specs.Network.{IsNetwork, port_states, root_of};
-ghost use Rattle.lp_rows.specs.Rows.{IsFirstRow, lower_in, allowed_of, listed, any_lower};
+ghost use Rattle.std.specs.Prelude.{◌<◌, length, IsTrue};
+ghost use Rattle.lp_rows.specs.Network.{IsNetwork};
+ghost use Rattle.lp_rows.specs.Rows.{IsFirstRow, lower_in};
 
 use crate::network::{listed_in, root, states_of_port};
 use crate::states::{below, highest, highest_allowed, lowest, lowest_allowed};
-use lp_model::{DeclaredState, OriginId, RowState, Supplies};
+use lp_model::{OriginId, Supplies};
 
 /// The first row in which some choice of states of the ports has the root of `a` on, at a voltage that with `by` added
 /// is below that of the root of `b`; none where there is no such row. Rows count from 1; where there are no rows,
@@ -14,7 +14,7 @@ pub fn lower_row(s: &Supplies, a: OriginId, b: OriginId, by: u64) -> Option<u32>
     requires network { IsNetwork s.now }
     requires first { a.0 < length s.now.origins }
     requires second { b.0 < length s.now.origins }
-    ensures { IsFirstRow s.now (λ row. lower_in s.now row a.0 b.0 by ≡ true) result }
+    ensures { IsFirstRow s.now (λ row. IsTrue (lower_in s.now row a.0 b.0 by)) result }
 {
     let (from, to) = (root(s, a), root(s, b));
     if from == to {
@@ -24,7 +24,11 @@ pub fn lower_row(s: &Supplies, a: OriginId, b: OriginId, by: u64) -> Option<u32>
     let (least, most) = (lowest(lower), highest(higher));
     let rows = s.rows.as_slice();
     if rows.is_empty() {
-        return if below(least, most, by) { Some(0) } else { None };
+        return if below(least, most, by) {
+            Some(0)
+        } else {
+            None
+        };
     }
     let mut number = 0;
     for row in rows {

@@ -9,12 +9,8 @@ pub fn under(r: (SupplyState, SupplyState), t: (SupplyState, SupplyState), margi
     ensures { result ≡ under_of r.0 r.1 t.0 t.1 margin }
 {
     match (r.0, r.1, t.0, t.1) {
-        (
-            SupplyState::On(lower),
-            SupplyState::On(_),
-            SupplyState::On(higher),
-            SupplyState::On(_),
-        ) => lower < higher && margin < higher - lower,
+        (SupplyState::On(lower), SupplyState::On(_), SupplyState::On(higher), SupplyState::On(_)) =>
+            lower < higher && margin < higher - lower,
         _ => false,
     }
 }

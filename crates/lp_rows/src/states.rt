@@ -39,11 +39,7 @@ pub fn highest(states: &[DeclaredState]) -> Option<u64>
 }
 
 /// The lowest voltage among the states that a row allows, where `free` is the lowest of all states.
-pub fn lowest_allowed(
-    states: &[DeclaredState],
-    free: Option<u64>,
-    listed: RowState,
-) -> Option<u64>
+pub fn lowest_allowed(states: &[DeclaredState], free: Option<u64>, listed: RowState) -> Option<u64>
     requires { free ≡ lowest_from None states.now }
     ensures { result ≡ lowest_from None (allowed_of states.now listed) }
 {
@@ -55,11 +51,7 @@ pub fn lowest_allowed(
 }
 
 /// The highest voltage among the states that a row allows, where `free` is the highest of all states.
-pub fn highest_allowed(
-    states: &[DeclaredState],
-    free: Option<u64>,
-    listed: RowState,
-) -> Option<u64>
+pub fn highest_allowed(states: &[DeclaredState], free: Option<u64>, listed: RowState) -> Option<u64>
     requires { free ≡ highest_from None states.now }
     ensures { result ≡ highest_from None (allowed_of states.now listed) }
 {
@@ -84,13 +76,14 @@ pub fn below(first: Option<u64>, second: Option<u64>, by: u64) -> bool
 pub fn accepted(states: &[DeclaredState], listed: RowState, state: SupplyState) -> bool
     ensures { result ≡ accepts (allowed_of states.now listed) state }
 {
-    let SupplyState::On(voltage) = state else {
+    if states.is_empty() {
         return true;
-    };
-    match listed {
-        RowState::Free => states.is_empty() || has_voltage(states, voltage),
-        RowState::Off => states.is_empty(),
-        RowState::On(only) => states.is_empty() || voltage == only,
+    }
+    match (state, listed) {
+        (SupplyState::Off | SupplyState::Unknown, _) => true,
+        (SupplyState::On(voltage), RowState::Free) => has_voltage(states, voltage),
+        (SupplyState::On(_), RowState::Off) => false,
+        (SupplyState::On(voltage), RowState::On(only)) => voltage == only,
     }
 }
 

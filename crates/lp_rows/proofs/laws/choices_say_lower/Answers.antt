@@ -1,4 +1,4 @@
-use Rattle.std.proofs.Common.{◌≡◌, ◌<◌, ◌+◌, ◌==◌, ◌⊎◌, ℕ, zero, suc, Bool, true, false, not, ◌&&◌, cond, ltb, List, [], ◌∷◌, length, get_or, inl, inr, refl, sym, subst, ap, ◌∙◌, arith}
+use Rattle.std.proofs.Common.{◌≡◌, ◌<◌, ◌+◌, ◌==◌, ℕ, true, false, not, cond, List, [], ◌∷◌, inl, inr, refl, sym, subst, ap, ◌∙◌, arith}
 use Rattle.std.specs.Prelude.{Contains}
 use Rattle.std.specs.List.{list_any, Any}
 use Rattle.std.proofs.lemmas.Bool.{and_parts, and_from, cases_eq, eq-eqb, eqb-false, ne_eqb, not-true, ltb-true, lt-ltb}
@@ -63,10 +63,10 @@ module _ (s : Supplies) (row : List RowState) (a b d : ℕ) where
       → (o : ℕ) → has_part s o ≡ true → Contains (allowed s row o) (choice x y o)
   allows x y apart here there o part =
       elim (cases_eq o from) [
-        inl e ↦ subst (λ (p : ℕ). Contains (allowed s row p) (choice x y p)) (sym e) (subst (λ (z : DeclaredState). Contains (allowed s row from) z) (sym (choice-from x y)) here)
-      | inr e ↦ elim (cases_eq o to) [
-          inl f ↦ subst (λ (p : ℕ). Contains (allowed s row p) (choice x y p)) (sym f) (subst (λ (z : DeclaredState). Contains (allowed s row to) z) (sym (choice-to x y apart)) there)
-        | inr f ↦ subst (λ (z : DeclaredState). Contains (allowed s row o) z) (sym (choice-other x y o (ne_eqb o from e) (ne_eqb o to f))) (Contains-head (port_states s o) (listed row o) part)
+        | inl e ↦ subst (λ (p : ℕ). Contains (allowed s row p) (choice x y p)) (sym e) (subst (λ (z : DeclaredState). Contains (allowed s row from) z) (sym (choice-from x y)) here)
+        | inr e ↦ elim (cases_eq o to) [
+          | inl f ↦ subst (λ (p : ℕ). Contains (allowed s row p) (choice x y p)) (sym f) (subst (λ (z : DeclaredState). Contains (allowed s row to) z) (sym (choice-to x y apart)) there)
+          | inr f ↦ subst (λ (z : DeclaredState). Contains (allowed s row o) z) (sym (choice-other x y o (ne_eqb o from e) (ne_eqb o to f))) (Contains-head (port_states s o) (listed row o) part)
         ]
       ]
 
@@ -104,9 +104,9 @@ module _ (s : Supplies) (row : List RowState) (a b d : ℕ) where
       let second : list_any (is_lower d x) (allowed s row to) ≡ true = list_any-from_Any (is_lower d x) (allowed s row to) (there.0, y, there.1, there.2, lower) in
       let first : any_lower d (allowed s row from) (allowed s row to) ≡ true = list_any-from_Any (λ z. list_any (is_lower d z) (allowed s row to)) (allowed s row from) (here.0, x, here.1, here.2, second) in
       let apart : (from == to) ≡ false = ne_eqb from to (λ e.
-          let same : On c.low ≡ On c.high = sym c.on_a ∙ ap c.choice e ∙ c.on_b in
-          let equal : c.low ≡ c.high = cc in
-          omega (arith, c.below)) in
+      let same : On c.low ≡ On c.high = sym c.on_a ∙ ap c.choice e ∙ c.on_b in
+      let equal : c.low ≡ c.high = cc in
+      omega (arith, c.below)) in
       and_from (not (from == to)) (any_lower d (allowed s row from) (allowed s row to)) (ap not apart) first
 
 pub returns : goal.returns

@@ -1,4 +1,4 @@
-use Rattle.std.proofs.Common.{◌≡◌, ◌-◌, ◌+◌, ◌<◌, Some, false, length, sym, ◌∙◌, arith}
+use Rattle.std.proofs.Common.{◌≡◌, ◌<◌, Some, false, length, sym, ◌∙◌, arith}
 use Rattle.lp_rows.specs.Network.{input_of}
 use Rattle.lp_rows.specs.Rows.{listed}
 use Rattle.lp_rows.specs.Leaks.{is_off}

@@ -1,4 +1,4 @@
-use Rattle.std.proofs.Common.{◌≡◌, ◌≤◌, false, take}
+use Rattle.std.proofs.Common.{◌≡◌, false, take}
 use Rattle.std.specs.List.{list_any}
 use Rattle.lp_rows.specs.Rows.{lower_in}
 use Rattle.lp_rows.proofs.RowLemmas.{passes}

@@ -1,4 +1,4 @@
-use Rattle.std.proofs.Common.{◌≡◌, ◌+◌, ℕ, suc, true, false, List, [], refl, sym, ap, ◌∙◌, arith, inl, inr}
+use Rattle.std.proofs.Common.{suc, List, [], refl, sym, ap, ◌∙◌, inl, inr}
 use Rattle.std.proofs.lemmas.Bool.{both_ways, cases_Bool}
 use Rattle.lp_model.specs.declared.intent.RowState.{RowState}
 use Rattle.lp_rows.specs.Rows.{row_among, within_in}
@@ -9,12 +9,13 @@ pub returns-then-is_empty : goal.returns-then-is_empty
 returns-then-is_empty c =
     let s = c.args.s.now in
     let test = λ (row : List RowState). within_in s row c.args.tuple.now in
-    let none = rows_none s.rows c.as_slice-rows.result.now c.is_empty.result c.as_slice-rows.ensures c.is_empty.ensures c.if-is_empty.true in
-    (λ passed. (0, [], ap (λ rows. row_among rows 0) none, sym c.is_within_row.ensures ∙ passed),
-     λ within. elim (cases_Bool c.is_within_row.result) [
-       inl passed ↦ passed
-     | inr missed ↦ absurd (both_ways (test within.1) (alone_missed s test none (sym c.is_within_row.ensures ∙ missed) within.0 within.1 within.2) within.3)
-     ])
+    let none = rows_none s.rows c.as_slice-rows.result.now c.is_empty.result c.as_slice-rows.ensures c.is_empty.ensures c.if-is_empty.true in (
+      λ passed. (0, [], ap (λ rows. row_among rows 0) none, sym c.is_within_row.ensures ∙ passed),
+      λ within. elim (cases_Bool c.is_within_row.result) [
+        | inl passed ↦ passed
+        | inr missed ↦ absurd (both_ways (test within.1) (alone_missed s test none (sym c.is_within_row.ensures ∙ missed) within.0 within.1 within.2) within.3)
+      ],
+    )
 
 pub returns-then-is_within_row : goal.returns-then-is_within_row
 returns-then-is_within_row c =
