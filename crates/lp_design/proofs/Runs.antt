@@ -1,5 +1,5 @@
 -- Where the equations have an order, there is exactly one run.
-use Rattle.std.proofs.Common.{◌≡◌, List, [], ◌∷◌, refl, sym, subst, ◌∙◌}
+use Rattle.std.proofs.Common.{◌≡◌, Option, Some, List, [], ◌∷◌, refl, sym, subst, ◌∙◌}
 use Rattle.lp_tern.specs.declared.tern.Tern.TheVariants.{X}
 use Rattle.lp_settling.specs.Settling.{IsOrder, Covers, SettlesOnce}
 use Rattle.lp_settling.specs.Laws.{settles_once}
@@ -12,29 +12,29 @@ module _ (d : Design) (order : List Key) (ordered : IsOrder keys (reads d) order
   once : (ev : Event) (regs : Registers) → SettlesOnce (equation d ev regs)
   once ev regs = settles_once keys (Logic X) (reads d) (equation d ev regs) (looks d ev regs) order ordered covers
 
-  same : (A' : Assignment) (s : States) (events : List Event) (first second : List Assignment) → IsRun d A' s events first → IsRun d A' s events second → first ≡ second
-  same A' s [] [] [] r q = refl
-  same A' s [] (A ∷ first) second r q = absurd r
-  same A' s [] [] (B ∷ second) r q = absurd q
-  same A' s (ev ∷ events) [] second r q = absurd r
-  same A' s (ev ∷ events) (A ∷ first) [] r q = absurd q
-  same A' s (ev ∷ events) (A ∷ first) (B ∷ second) r q =
+  same : (last : Option Assignment) (s : States) (events : List Event) (first second : List Assignment) → IsRun d last s events first → IsRun d last s events second → first ≡ second
+  same last s [] [] [] r q = refl
+  same last s [] (A ∷ first) second r q = absurd r
+  same last s [] [] (B ∷ second) r q = absurd q
+  same last s (ev ∷ events) [] second r q = absurd r
+  same last s (ev ∷ events) (A ∷ first) [] r q = absurd q
+  same last s (ev ∷ events) (A ∷ first) (B ∷ second) r q =
       let one : B ≡ A = (once ev s.main).only B q.0 ∙ sym ((once ev s.main).only A r.0) in
-      let rest : first ≡ second = same A (states_after d A' A s) events first second r.1 (subst (λ z. IsRun d z (states_after d A' z s) events second) one q.1) in
+      let rest : first ≡ second = same (Some A) (states_after d last A s) events first second r.1 (subst (λ z. IsRun d (Some z) (states_after d last z s) events second) one q.1) in
       λ i. sym one i ∷ rest i
 
-  played : Assignment → States → List Event → List Assignment
-  played A' s [] = []
-  played A' s (ev ∷ events) = (once ev s.main).settled ∷ played (once ev s.main).settled (states_after d A' (once ev s.main).settled s) events
+  played : Option Assignment → States → List Event → List Assignment
+  played last s [] = []
+  played last s (ev ∷ events) = (once ev s.main).settled ∷ played (Some (once ev s.main).settled) (states_after d last (once ev s.main).settled s) events
 
-  is_played : (A' : Assignment) (s : States) (events : List Event) → IsRun d A' s events (played A' s events)
+  is_played : (last : Option Assignment) (s : States) (events : List Event) → IsRun d last s events (played last s events)
   unfolding played
-  is_played A' s [] = tt
-  is_played A' s (ev ∷ events) = ((once ev s.main).settles, is_played (once ev s.main).settled (states_after d A' (once ev s.main).settled s) events)
+  is_played last s [] = tt
+  is_played last s (ev ∷ events) = ((once ev s.main).settles, is_played (Some (once ev s.main).settled) (states_after d last (once ev s.main).settled s) events)
 
-  pub runs : (A' : Assignment) (s : States) (events : List Event) → RunsOnce d A' s events
-  runs A' s events = record {
-    run = played A' s events;
-    is_run = is_played A' s events;
-    only = λ other r. same A' s events other (played A' s events) r (is_played A' s events);
+  pub runs : (last : Option Assignment) (s : States) (events : List Event) → RunsOnce d last s events
+  runs last s events = record {
+    run = played last s events;
+    is_run = is_played last s events;
+    only = λ other r. same last s events other (played last s events) r (is_played last s events);
   }

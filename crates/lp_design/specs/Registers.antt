@@ -11,7 +11,7 @@ use Rattle.lp_model.specs.declared.intent.StrategyKind.TheVariants.{Retention}
 use Rattle.lp_model.specs.LibraryView.{StateView, CellView}
 use Rattle.lp_behaviour.specs.Registers.{forced_of, fires_of, main_of, copy_of}
 use Rattle.lp_design.specs.Keys.{Name, Path, same_path, Node}
-use Rattle.lp_design.specs.Netlists.{cell_at}
+use Rattle.lp_design.specs.Netlists.{Structure, cell_at}
 use Rattle.lp_design.specs.Graph.{numbered}
 use Rattle.lp_design.specs.Intents.{Element, AtInstance, AtCell, AtPort, AtBit, Strategy, Intent}
 use Rattle.lp_design.specs.Domains.{domain_of, primary_of, same_domain}
@@ -88,43 +88,52 @@ pub record States : Type 0 where
   pub main : Registers
   pub saved : Registers
 
+-- what settled before an event, if one went before; else every pin and every control was X, constants too
+abbrev pub pins_before : Structure → Option Assignment → Path → Name → Name → Tern
+pins_before s None p x q = X
+pins_before s (Some A) p x q = pins_at s A p x q
+
+abbrev pub before : Option Assignment → Node → Tern
+before None k = X
+before (Some A) k = at A k
+
 -- whether a save or a restore takes place, from its control before the event and in it
-abbrev pub fires_at : Assignment → Assignment → Option (Node × Action) → Tern
-fires_at A' A None = X
-fires_at A' A (Some control) = fires_of control.1 (at A' control.0) (at A control.0)
+abbrev pub fires_at : Option Assignment → Assignment → Option (Node × Action) → Tern
+fires_at last A None = X
+fires_at last A (Some control) = fires_of control.1 (before last control.0) (at A control.0)
 
 abbrev pub copy_held : Design → Assignment → Strategy → Tern → Tern
 copy_held d A t v = kept (set_on d.network A t.supply) v
 
-abbrev pub restored : Design → Assignment → Assignment → Option Strategy → Tern → Tern → Tern
-restored d A' A None v result = result
-restored d A' A (Some t) v result = main_of (fires_at A' A t.restore) (copy_held d A t v) result
+abbrev pub restored : Design → Option Assignment → Assignment → Option Strategy → Tern → Tern → Tern
+restored d last A None v result = result
+restored d last A (Some t) v result = main_of (fires_at last A t.restore) (copy_held d A t v) result
 
-abbrev pub saved_after : Design → Assignment → Assignment → Option Strategy → Tern → Tern → Tern
-saved_after d A' A None visible v = v
-saved_after d A' A (Some t) visible v = copy_held d A t (copy_of (fires_at A' A t.save) visible (copy_held d A t v))
+abbrev pub saved_after : Design → Option Assignment → Assignment → Option Strategy → Tern → Tern → Tern
+saved_after d last A None visible v = v
+saved_after d last A (Some t) visible v = copy_held d A t (copy_of (fires_at last A t.save) visible (copy_held d A t v))
 
 abbrev pub primary_on : Design → Assignment → Path → Bool
 primary_on d A p = set_on d.network A (primary_of d.intent (domain_of d.intent p))
 
--- the states after an event: A' is what settled before it, A what settles in it
-abbrev pub states_after : Design → Assignment → Assignment → States → States
-states_after d A' A s = record {
-  main = λ p x. kept (primary_on d A p) (restored d A' A (retention d.intent p x) (s.saved p x) (cell_after (cell_at d.structure p x) (pins_at d.structure A' p x) (pins_at d.structure A p x) (s.main p x)));
-  saved = λ p x. saved_after d A' A (retention d.intent p x) (kept (primary_on d A p) (s.main p x)) (s.saved p x);
+-- the states after an event: what settled before it, if any, and what settles in it
+abbrev pub states_after : Design → Option Assignment → Assignment → States → States
+states_after d last A s = record {
+  main = λ p x. kept (primary_on d A p) (restored d last A (retention d.intent p x) (s.saved p x) (cell_after (cell_at d.structure p x) (pins_before d.structure last p x) (pins_at d.structure A p x) (s.main p x)));
+  saved = λ p x. saved_after d last A (retention d.intent p x) (kept (primary_on d A p) (s.main p x)) (s.saved p x);
 }
 
 -- ---- runs
 
 -- an assignment for each event: it settles with the present states, and leads to the next ones
-abbrev pub IsRun : Design → Assignment → States → List Event → List Assignment → Type 0
-IsRun d A' s [] [] = Unit {0}
-IsRun d A' s (ev ∷ events) (A ∷ more) = SettlesIntent d ev s.main A × IsRun d A (states_after d A' A s) events more
-IsRun d A' s [] (A ∷ more) = ⊥
-IsRun d A' s (ev ∷ events) [] = ⊥
+abbrev pub IsRun : Design → Option Assignment → States → List Event → List Assignment → Type 0
+IsRun d last s [] [] = Unit {0}
+IsRun d last s (ev ∷ events) (A ∷ more) = SettlesIntent d ev s.main A × IsRun d (Some A) (states_after d last A s) events more
+IsRun d last s [] (A ∷ more) = ⊥
+IsRun d last s (ev ∷ events) [] = ⊥
 
 -- there is a run, and it is the only one
-pub record RunsOnce (d : Design) (A' : Assignment) (s : States) (events : List Event) : Type 0 where
+pub record RunsOnce (d : Design) (last : Option Assignment) (s : States) (events : List Event) : Type 0 where
   pub run : List Assignment
-  pub is_run : IsRun d A' s events run
-  pub only : (other : List Assignment) → IsRun d A' s events other → other ≡ run
+  pub is_run : IsRun d last s events run
+  pub only : (other : List Assignment) → IsRun d last s events other → other ≡ run

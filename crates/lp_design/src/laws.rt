@@ -44,7 +44,8 @@ pub fn settles_once()
 {}
 
 /// Where all that occurs in the equations under intent has an order, there is exactly one run of the source over a list
-/// of events, from what settled last and from the states of its registers.
+/// of events, from what settled before them, if
+/// anything did, and from the states of its registers.
 pub fn runs_once()
-    ensures { (d : Design) (last : Assignment) (states : States) (events : List Event) (order : List Key) → IsOrder keys (reads d) order → Covers keys (reads d) order → RunsOnce d last states events }
+    ensures { (d : Design) (last : Option Assignment) (states : States) (events : List Event) (order : List Key) → IsOrder keys (reads d) order → Covers keys (reads d) order → RunsOnce d last states events }
 {}
