@@ -9,7 +9,7 @@ use Rattle.lp_tern.specs.Values.{replacements, agreed, choose_of, choose_supply_
 use Rattle.lp_expr.specs.Formula.{truth, completions}
 use Rattle.lp_settling.specs.Settling.{has, LooksAt}
 use Rattle.lp_model.specs.LibraryView.{ExprView, PinView, CellView}
-use Rattle.lp_design.specs.Keys.{Name, Path, Node, Inner, Outer, Fixed, Source, CellPin, Environment, From}
+use Rattle.lp_design.specs.Keys.{Name, Path, Node, Inner, Outer, Fixed, Source, CellPin, SwitchedPin, Environment, From}
 use Rattle.lp_design.specs.Netlists.{cell_at}
 use Rattle.lp_design.specs.Graph.{source_of}
 use Rattle.lp_design.specs.Intents.{SetNumber, SupplySet, Origin, FromPort, FromSwitch, Strategy, Intent, Network}
@@ -127,6 +127,7 @@ module _ (A B : Assignment) where
     node-same (Outer m i) (Some Environment) h = ap (λ on. kept on (ev.inputs m i)) (set_on-same d.network (start_rail d.structure d.intent (Outer m i)) h)
     node-same (Inner m i p) (Some Environment) h = refl
     node-same (Fixed b) (Some Environment) h = refl
+    node-same k (Some (SwitchedPin p x q)) h = refl
     node-same k (Some (CellPin p x q)) h =
         let set = primary_of d.intent (domain_of d.intent p) in
         λ r. kept (set_on-same d.network set (left (set_keys d.network set) (output_keys d p x q (cell_at d.structure p x)) h) r)

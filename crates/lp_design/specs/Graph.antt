@@ -4,8 +4,8 @@ use Rattle.std.specs.List.{list_any}
 use Rattle.lp_model.specs.declared.netlist.Direction.{Direction}
 use Rattle.lp_model.specs.declared.netlist.Direction.TheVariants.{Input, Output}
 use Rattle.lp_model.specs.NetlistView.{BitView, PortView, ConnectionsView, InstanceView, AssignView, ModuleView}
-use Rattle.lp_model.specs.LibraryView.{CellView, PinView}
-use Rattle.lp_design.specs.Keys.{Name, Path, Node, Inner, Outer, Fixed, Way, PortBit, AssignBit, Source, CellPin, Environment, From, same_node, same_way, same_index}
+use Rattle.lp_model.specs.LibraryView.{PgPinView, CellView, PinView}
+use Rattle.lp_design.specs.Keys.{Name, Path, Node, Inner, Outer, Fixed, Way, PortBit, AssignBit, Source, CellPin, SwitchedPin, Environment, From, same_node, same_way, same_index}
 use Rattle.lp_design.specs.Netlists.{Structure, first, module_named, cell_named, module_at, indices, node_of, connected, is_input}
 
 -- each bit of a port with what it is connected to, in order from the left; what is left over on one side is not joined
@@ -59,9 +59,11 @@ is_output_pin q = by q.direction
 abbrev pub touches : Path → Name → Option ℕ → List BitView → Bool
 touches p n i bits = list_any (λ b. same_node (node_of p b) (Inner n i p)) bits
 
--- an output pin of a cell instance
+-- an output pin or a switched pin of a cell instance
 abbrev pub from_cell : Path → Name → Option ℕ → InstanceView → CellView → List Source
-from_cell p n i x c = some_of (λ q. when (is_output_pin q && touches p n i (connected [] q.name x.connections)) (CellPin p x.name q.name)) c.pins
+from_cell p n i x c =
+    some_of (λ q. when (is_output_pin q && touches p n i (connected [] q.name x.connections)) (CellPin p x.name q.name)) c.pins
+    ++ some_of (λ (g : PgPinView). when (is_some g.switched && touches p n i (connected [] g.name x.connections)) (SwitchedPin p x.name g.name)) c.pgs
 
 abbrev pub from_one : Structure → Path → Name → Option ℕ → InstanceView → List Source
 from_one s p n i x = by (module_named s x.target) (cell_named s x.target)
@@ -130,7 +132,7 @@ abbrev pub beginning : Node → List (Way × Node) → Node
 beginning k [] = k
 beginning k (step ∷ steps) = beginning step.1 steps
 
--- what drives a node in the end: a cell output, the environment, or nothing (a constant or a node without source)
+-- what drives a node in the end: a cell output, a switched pin, the environment, or nothing (a constant or a node without source)
 abbrev pub wire_source : Structure → ℕ → Node → Option Source
 wire_source s fuel k = source_of s (beginning k (trail s fuel k))
 

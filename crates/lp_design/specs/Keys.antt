@@ -46,8 +46,9 @@ same_way (PortBit p m i) (PortBit q n j) = bytes_eq m n && (same_index i j && sa
 same_way (AssignBit p a k) (AssignBit q b l) = (a == b) && ((k == l) && same_path p q)
 same_way _ _ = false
 
--- what drives a node: an output pin of a cell instance, which stands in an instance, the environment, or a way from a node
+-- what drives a node: an output pin or a switched power or ground pin of a cell instance, which stands in an instance, the environment, or a way from a node
 pub data Source : Type 0 where
   CellPin : Path → Name → Name → Source
+  SwitchedPin : Path → Name → Name → Source
   Environment : Source
   From : Way → Node → Source

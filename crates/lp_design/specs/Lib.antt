@@ -7,5 +7,6 @@ pub mod Netlists
 pub mod Samples
 pub mod Settled
 pub mod Winners
+pub mod Pins
 pub mod Reads
 pub mod Registers

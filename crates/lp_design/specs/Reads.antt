@@ -6,7 +6,7 @@ use Rattle.std.proofs.lemmas.Bool.{true≢false, eqb-true, eq-eqb}
 use Rattle.std.proofs.lemmas.Slice.Eq.{bytes_eq-Decides}
 use Rattle.lp_settling.specs.Settling.{Keys}
 use Rattle.lp_model.specs.LibraryView.{ExprView, PinView, CellView}
-use Rattle.lp_design.specs.Keys.{Name, Path, same_path, same_index, same_bool, Node, Inner, Outer, Fixed, same_node, Source, CellPin, Environment, From}
+use Rattle.lp_design.specs.Keys.{Name, Path, same_path, same_index, same_bool, Node, Inner, Outer, Fixed, same_node, Source, CellPin, SwitchedPin, Environment, From}
 use Rattle.lp_design.specs.Netlists.{cell_at}
 use Rattle.lp_design.specs.Graph.{source_of}
 use Rattle.lp_design.specs.Intents.{SetNumber, SupplySet, Origin, FromPort, FromSwitch, Strategy, Intent, Network}
@@ -56,6 +56,7 @@ output_keys d p x q (Some c) = function_keys c (λ v. some_node_keys (node_at_pi
 abbrev pub source_keys : Design → Node → Option Source → List Key
 source_keys d k None = []
 source_keys d k (Some Environment) = set_keys d.network (start_rail d.structure d.intent k)
+source_keys d k (Some (SwitchedPin p x q)) = []
 source_keys d k (Some (CellPin p x q)) = set_keys d.network (primary_of d.intent (domain_of d.intent p)) ++ output_keys d p x q (cell_at d.structure p x)
 source_keys d k (Some (From w j)) = node_keys j ++ flat_map (operator_keys d.network d.intent) (operators_at d.structure d.network d.intent d.fuel w (rail d.structure d.network d.intent d.fuel j))
 

@@ -8,7 +8,7 @@ use Rattle.lp_tern.specs.Values.{replacements, agreed, choose_of, choose_supply_
 use Rattle.lp_expr.specs.Formula.{truth, completions}
 use Rattle.lp_model.specs.NetlistView.{InstanceView}
 use Rattle.lp_model.specs.LibraryView.{ExprView, PinView, StateView, CellView}
-use Rattle.lp_design.specs.Keys.{Name, Path, Node, Outer, Fixed, Source, CellPin, Environment, From}
+use Rattle.lp_design.specs.Keys.{Name, Path, Node, Outer, Fixed, Source, CellPin, SwitchedPin, Environment, From}
 use Rattle.lp_design.specs.Netlists.{Structure, first, module_at, cell_at, instance_named}
 use Rattle.lp_design.specs.Graph.{source_of, pin_node}
 use Rattle.lp_design.specs.Intents.{SetNumber, SupplySet, Origin, FromPort, FromSwitch, Strategy, Intent, Network}
@@ -169,6 +169,7 @@ abbrev pub node_equation : Design → Event → Registers → Assignment → Nod
 node_equation d ev regs A k None = X
 node_equation d ev regs A (Outer n j) (Some Environment) = kept (set_on d.network A (start_rail d.structure d.intent (Outer n j))) (ev.inputs n j)
 node_equation d ev regs A k (Some Environment) = X
+node_equation d ev regs A k (Some (SwitchedPin p x q)) = X
 node_equation d ev regs A k (Some (CellPin p x q)) =
     kept (set_on d.network A (primary_of d.intent (domain_of d.intent p)))
     (output_of d.structure A regs p x q (cell_at d.structure p x))

@@ -1,0 +1,136 @@
+-- A small netlist with its supplies, judged by its pins, and a power switch and level shifters by their pins.
+use Rattle.std.proofs.Common.{◌≡◌, true, false, [], ◌∷◌, List, Option, Some, None, refl}
+use Rattle.std.specs.Prelude.{ℕ, Bool, ◌||◌, bytes_eq, if◌then◌else◌, codes, map}
+use Rattle.lp_tern.specs.declared.tern.Tern.{Tern}
+use Rattle.lp_tern.specs.declared.tern.Tern.TheVariants.{Zero, One, X}
+use Rattle.lp_tern.specs.declared.supply.SupplyState.{SupplyState}
+use Rattle.lp_tern.specs.declared.supply.SupplyState.TheVariants.{On, Off, Unknown}
+use Rattle.lp_expr.specs.declared.step.Step.TheVariants.{Variable, Not, And, Or}
+use Rattle.lp_model.specs.declared.netlist.Direction.TheVariants.{Input, Output}
+use Rattle.lp_model.specs.declared.library.PgKind.TheVariants.{PrimaryPower, PrimaryGround}
+use Rattle.lp_model.specs.declared.library.PinUse.TheVariants as uses
+use Rattle.lp_model.specs.NetlistView.{NetBit, ByName, ConnectionView, ModuleView}
+use Rattle.lp_model.specs.LibraryView.{ExprView, PgPinView, PinView, CellView}
+use Rattle.lp_design.specs.Keys.{Name, Inner}
+use Rattle.lp_design.specs.Netlists.{Structure}
+use Rattle.lp_design.specs.Settled.{Registers}
+use Rattle.lp_design.specs.Pins.{SupplyNodes, Surroundings, Powered, PinEvent, output_by_pins, computed_by_pins}
+use Rattle.lp_design.specs.Samples.{port, to, cell, pin}
+
+-- ---- cells with a power pin VDD and a ground pin VSS
+
+abbrev down : ExprView
+down = record { variables = codes "VDD" ∷ codes "VSS" ∷ []; steps = Variable 0 ∷ Not ∷ Variable 1 ∷ Or ∷ [] }
+
+abbrev input : Name → PinView
+input n = record (pin n Input None) { gnd = Some 1 }
+
+abbrev out : ExprView → PinView
+out e = record (pin (codes "Y") Output (Some e)) { gnd = Some 1; power_down = Some down }
+
+abbrev supplied : CellView → CellView
+supplied c = record c { pgs = record { name = codes "VDD"; kind = PrimaryPower; switched = None } ∷ record { name = codes "VSS"; kind = PrimaryGround; switched = None } ∷ [] }
+
+abbrev cells : List CellView
+cells =
+    supplied (cell (codes "INV") (input (codes "A") ∷ out (record { variables = codes "A" ∷ []; steps = Variable 0 ∷ Not ∷ [] }) ∷ []))
+    ∷ supplied (cell (codes "BUF") (input (codes "A") ∷ out (record { variables = codes "A" ∷ []; steps = Variable 0 ∷ [] }) ∷ []))
+    ∷ supplied (cell (codes "ISO0") (input (codes "D") ∷ input (codes "EN") ∷ out (record { variables = codes "D" ∷ codes "EN" ∷ []; steps = Variable 0 ∷ Variable 1 ∷ Not ∷ And ∷ [] }) ∷ []))
+    ∷ []
+
+-- ---- a block whose output has a clamp, as it is written
+
+abbrev joined : Name → Name → ConnectionView
+joined p n = to p (NetBit n)
+
+abbrev by_supplies : List ConnectionView
+by_supplies = joined (codes "lp_v_VDD") (codes "lp_v_VDD") ∷ joined (codes "lp_v_VDC") (codes "lp_v_VDC") ∷ joined (codes "lp_v_VSS") (codes "lp_v_VSS") ∷ joined (codes "lp_c_0") (codes "en") ∷ []
+
+abbrev inner : ModuleView
+inner = record {
+  name = codes "lp_1_core";
+  ports = port (codes "i") Input None ∷ port (codes "o") Output None ∷ port (codes "lp_v_VDD") Input None ∷ port (codes "lp_v_VDC") Input None ∷ port (codes "lp_v_VSS") Input None ∷ port (codes "lp_c_0") Input None ∷ [];
+  nets = record { name = codes "lp_n_0"; range = None } ∷ [];
+  instances =
+    record { name = codes "g"; target = codes "INV"; connections = ByName (joined (codes "A") (codes "i") ∷ joined (codes "Y") (codes "lp_n_0") ∷ joined (codes "VDD") (codes "lp_v_VDC") ∷ joined (codes "VSS") (codes "lp_v_VSS") ∷ []) }
+    ∷ record { name = codes "lp_i_0"; target = codes "ISO0"; connections = ByName (joined (codes "D") (codes "lp_n_0") ∷ joined (codes "EN") (codes "lp_c_0") ∷ joined (codes "Y") (codes "o") ∷ joined (codes "VDD") (codes "lp_v_VDD") ∷ joined (codes "VSS") (codes "lp_v_VSS") ∷ []) }
+    ∷ [];
+  assigns = [];
+}
+
+abbrev outer : ModuleView
+outer = record {
+  name = codes "top";
+  ports = port (codes "a") Input None ∷ port (codes "en") Input None ∷ port (codes "y") Output None ∷ port (codes "lp_v_VDD") Input None ∷ port (codes "lp_v_VDC") Input None ∷ port (codes "lp_v_VSS") Input None ∷ [];
+  nets = record { name = codes "n"; range = None } ∷ [];
+  instances =
+    record { name = codes "u"; target = codes "lp_1_core"; connections = ByName (joined (codes "i") (codes "a") ∷ joined (codes "o") (codes "n") ∷ by_supplies) }
+    ∷ record { name = codes "b"; target = codes "BUF"; connections = ByName (joined (codes "A") (codes "n") ∷ joined (codes "Y") (codes "y") ∷ joined (codes "VDD") (codes "lp_v_VDD") ∷ joined (codes "VSS") (codes "lp_v_VSS") ∷ []) }
+    ∷ [];
+  assigns = [];
+}
+
+abbrev top_supply : SupplyNodes
+top_supply = record { power = Inner (codes "lp_v_VDD") None []; gnd = Inner (codes "lp_v_VSS") None [] }
+
+abbrev around : ℕ → Surroundings
+around margin = record {
+  is_supply = λ n. bytes_eq n (codes "lp_v_VDD") || (bytes_eq n (codes "lp_v_VDC") || bytes_eq n (codes "lp_v_VSS"));
+  driver = λ n. top_supply;
+  receiver = λ n. top_supply;
+  margin = margin;
+}
+
+abbrev written : ℕ → Powered
+written margin = record { structure = record { modules = outer ∷ inner ∷ []; cells = cells }; around = around margin; fuel = 12 }
+
+-- the top's supply is on, the block's is given, and so is the ground
+abbrev event : Tern → Tern → SupplyState → PinEvent
+event a en block = record {
+  inputs = λ n j. if bytes_eq n (codes "a") then a else en;
+  supplies = λ n. if bytes_eq n (codes "lp_v_VDC") then block else if bytes_eq n (codes "lp_v_VSS") then On 0 else On 1000000;
+}
+
+abbrev no_registers : Registers
+no_registers p q = X
+
+abbrev y_with : ℕ → PinEvent → Tern
+y_with margin ev = output_by_pins (written margin) (computed_by_pins (written margin) ev no_registers 12) (codes "y") None
+
+abbrev y : PinEvent → Tern
+y ev = y_with 0 ev
+
+all_on : y (event Zero Zero (On 1000000)) ≡ One
+all_on = refl
+
+block_off : y (event Zero Zero Off) ≡ X
+block_off = refl
+
+block_off_and_clamped : y (event Zero One Off) ≡ Zero
+block_off_and_clamped = refl
+
+unknown_control_over_the_clamp_value : y (event One X (On 1000000)) ≡ Zero
+unknown_control_over_the_clamp_value = refl
+
+unknown_control_over_the_other : y (event Zero X (On 1000000)) ≡ X
+unknown_control_over_the_other = refl
+
+unknown_supply : y (event Zero Zero Unknown) ≡ X
+unknown_supply = refl
+
+-- a block that is lower than the clamp's supply is not read, but within the margin
+lower_block : y (event Zero Zero (On 800000)) ≡ X
+lower_block = refl
+
+within_the_margin : y_with 200000 (event Zero Zero (On 800000)) ≡ One
+within_the_margin = refl
+
+beyond_the_margin : y_with 199999 (event Zero Zero (On 800000)) ≡ X
+beyond_the_margin = refl
+
+-- a block that is higher than the top does not read the top's input
+higher_block : y (event Zero Zero (On 1200000)) ≡ X
+higher_block = refl
+
+higher_block_within_the_margin : y_with 200000 (event Zero Zero (On 1200000)) ≡ One
+higher_block_within_the_margin = refl
