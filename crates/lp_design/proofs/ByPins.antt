@@ -1,6 +1,6 @@
 -- A small netlist with its supplies, judged by its pins, and a power switch and level shifters by their pins.
-use Rattle.std.proofs.Common.{◌≡◌, true, false, [], ◌∷◌, List, Option, Some, None, refl}
-use Rattle.std.specs.Prelude.{ℕ, Bool, ◌||◌, bytes_eq, if◌then◌else◌, codes, map}
+use Rattle.std.proofs.Common.{◌≡◌, [], ◌∷◌, List, Some, None, refl}
+use Rattle.std.specs.Prelude.{ℕ, ◌||◌, bytes_eq, if◌then◌else◌, codes}
 use Rattle.lp_tern.specs.declared.tern.Tern.{Tern}
 use Rattle.lp_tern.specs.declared.tern.Tern.TheVariants.{Zero, One, X}
 use Rattle.lp_tern.specs.declared.supply.SupplyState.{SupplyState}
@@ -8,30 +8,28 @@ use Rattle.lp_tern.specs.declared.supply.SupplyState.TheVariants.{On, Off, Unkno
 use Rattle.lp_expr.specs.declared.step.Step.TheVariants.{Variable, Not, And, Or}
 use Rattle.lp_model.specs.declared.netlist.Direction.TheVariants.{Input, Output}
 use Rattle.lp_model.specs.declared.library.PgKind.TheVariants.{PrimaryPower, PrimaryGround}
-use Rattle.lp_model.specs.declared.library.PinUse.TheVariants as uses
 use Rattle.lp_model.specs.NetlistView.{NetBit, ByName, ConnectionView, ModuleView}
-use Rattle.lp_model.specs.LibraryView.{ExprView, PgPinView, PinView, CellView}
+use Rattle.lp_model.specs.LibraryView.{ExprView, PinView, CellView}
 use Rattle.lp_design.specs.Keys.{Name, Inner}
-use Rattle.lp_design.specs.Netlists.{Structure}
 use Rattle.lp_design.specs.Settled.{Registers}
 use Rattle.lp_design.specs.Pins.{SupplyNodes, Surroundings, Powered, PinEvent, output_by_pins, computed_by_pins}
 use Rattle.lp_design.specs.Samples.{port, to, cell, pin}
 
 -- ---- cells with a power pin VDD and a ground pin VSS
 
-abbrev down : ExprView
+abbrev pub down : ExprView
 down = record { variables = codes "VDD" ∷ codes "VSS" ∷ []; steps = Variable 0 ∷ Not ∷ Variable 1 ∷ Or ∷ [] }
 
-abbrev input : Name → PinView
+abbrev pub input : Name → PinView
 input n = record (pin n Input None) { gnd = Some 1 }
 
-abbrev out : ExprView → PinView
+abbrev pub out : ExprView → PinView
 out e = record (pin (codes "Y") Output (Some e)) { gnd = Some 1; power_down = Some down }
 
-abbrev supplied : CellView → CellView
+abbrev pub supplied : CellView → CellView
 supplied c = record c { pgs = record { name = codes "VDD"; kind = PrimaryPower; switched = None } ∷ record { name = codes "VSS"; kind = PrimaryGround; switched = None } ∷ [] }
 
-abbrev cells : List CellView
+abbrev pub cells : List CellView
 cells =
     supplied (cell (codes "INV") (input (codes "A") ∷ out (record { variables = codes "A" ∷ []; steps = Variable 0 ∷ Not ∷ [] }) ∷ []))
     ∷ supplied (cell (codes "BUF") (input (codes "A") ∷ out (record { variables = codes "A" ∷ []; steps = Variable 0 ∷ [] }) ∷ []))
@@ -40,40 +38,40 @@ cells =
 
 -- ---- a block whose output has a clamp, as it is written
 
-abbrev joined : Name → Name → ConnectionView
+abbrev pub joined : Name → Name → ConnectionView
 joined p n = to p (NetBit n)
 
-abbrev by_supplies : List ConnectionView
+abbrev pub by_supplies : List ConnectionView
 by_supplies = joined (codes "lp_v_VDD") (codes "lp_v_VDD") ∷ joined (codes "lp_v_VDC") (codes "lp_v_VDC") ∷ joined (codes "lp_v_VSS") (codes "lp_v_VSS") ∷ joined (codes "lp_c_0") (codes "en") ∷ []
 
-abbrev inner : ModuleView
+abbrev pub inner : ModuleView
 inner = record {
   name = codes "lp_1_core";
   ports = port (codes "i") Input None ∷ port (codes "o") Output None ∷ port (codes "lp_v_VDD") Input None ∷ port (codes "lp_v_VDC") Input None ∷ port (codes "lp_v_VSS") Input None ∷ port (codes "lp_c_0") Input None ∷ [];
   nets = record { name = codes "lp_n_0"; range = None } ∷ [];
   instances =
-    record { name = codes "g"; target = codes "INV"; connections = ByName (joined (codes "A") (codes "i") ∷ joined (codes "Y") (codes "lp_n_0") ∷ joined (codes "VDD") (codes "lp_v_VDC") ∷ joined (codes "VSS") (codes "lp_v_VSS") ∷ []) }
-    ∷ record { name = codes "lp_i_0"; target = codes "ISO0"; connections = ByName (joined (codes "D") (codes "lp_n_0") ∷ joined (codes "EN") (codes "lp_c_0") ∷ joined (codes "Y") (codes "o") ∷ joined (codes "VDD") (codes "lp_v_VDD") ∷ joined (codes "VSS") (codes "lp_v_VSS") ∷ []) }
-    ∷ [];
+      record { name = codes "g"; target = codes "INV"; connections = ByName (joined (codes "A") (codes "i") ∷ joined (codes "Y") (codes "lp_n_0") ∷ joined (codes "VDD") (codes "lp_v_VDC") ∷ joined (codes "VSS") (codes "lp_v_VSS") ∷ []) }
+      ∷ record { name = codes "lp_i_0"; target = codes "ISO0"; connections = ByName (joined (codes "D") (codes "lp_n_0") ∷ joined (codes "EN") (codes "lp_c_0") ∷ joined (codes "Y") (codes "o") ∷ joined (codes "VDD") (codes "lp_v_VDD") ∷ joined (codes "VSS") (codes "lp_v_VSS") ∷ []) }
+      ∷ [];
   assigns = [];
 }
 
-abbrev outer : ModuleView
+abbrev pub outer : ModuleView
 outer = record {
   name = codes "top";
   ports = port (codes "a") Input None ∷ port (codes "en") Input None ∷ port (codes "y") Output None ∷ port (codes "lp_v_VDD") Input None ∷ port (codes "lp_v_VDC") Input None ∷ port (codes "lp_v_VSS") Input None ∷ [];
   nets = record { name = codes "n"; range = None } ∷ [];
   instances =
-    record { name = codes "u"; target = codes "lp_1_core"; connections = ByName (joined (codes "i") (codes "a") ∷ joined (codes "o") (codes "n") ∷ by_supplies) }
-    ∷ record { name = codes "b"; target = codes "BUF"; connections = ByName (joined (codes "A") (codes "n") ∷ joined (codes "Y") (codes "y") ∷ joined (codes "VDD") (codes "lp_v_VDD") ∷ joined (codes "VSS") (codes "lp_v_VSS") ∷ []) }
-    ∷ [];
+      record { name = codes "u"; target = codes "lp_1_core"; connections = ByName (joined (codes "i") (codes "a") ∷ joined (codes "o") (codes "n") ∷ by_supplies) }
+      ∷ record { name = codes "b"; target = codes "BUF"; connections = ByName (joined (codes "A") (codes "n") ∷ joined (codes "Y") (codes "y") ∷ joined (codes "VDD") (codes "lp_v_VDD") ∷ joined (codes "VSS") (codes "lp_v_VSS") ∷ []) }
+      ∷ [];
   assigns = [];
 }
 
-abbrev top_supply : SupplyNodes
+abbrev pub top_supply : SupplyNodes
 top_supply = record { power = Inner (codes "lp_v_VDD") None []; gnd = Inner (codes "lp_v_VSS") None [] }
 
-abbrev around : ℕ → Surroundings
+abbrev pub around : ℕ → Surroundings
 around margin = record {
   is_supply = λ n. bytes_eq n (codes "lp_v_VDD") || (bytes_eq n (codes "lp_v_VDC") || bytes_eq n (codes "lp_v_VSS"));
   driver = λ n. top_supply;
@@ -81,23 +79,23 @@ around margin = record {
   margin = margin;
 }
 
-abbrev written : ℕ → Powered
+abbrev pub written : ℕ → Powered
 written margin = record { structure = record { modules = outer ∷ inner ∷ []; cells = cells }; around = around margin; fuel = 12 }
 
 -- the top's supply is on, the block's is given, and so is the ground
-abbrev event : Tern → Tern → SupplyState → PinEvent
+abbrev pub event : Tern → Tern → SupplyState → PinEvent
 event a en block = record {
   inputs = λ n j. if bytes_eq n (codes "a") then a else en;
   supplies = λ n. if bytes_eq n (codes "lp_v_VDC") then block else if bytes_eq n (codes "lp_v_VSS") then On 0 else On 1000000;
 }
 
-abbrev no_registers : Registers
+abbrev pub no_registers : Registers
 no_registers p q = X
 
-abbrev y_with : ℕ → PinEvent → Tern
+abbrev pub y_with : ℕ → PinEvent → Tern
 y_with margin ev = output_by_pins (written margin) (computed_by_pins (written margin) ev no_registers 12) (codes "y") None
 
-abbrev y : PinEvent → Tern
+abbrev pub y : PinEvent → Tern
 y ev = y_with 0 ev
 
 all_on : y (event Zero Zero (On 1000000)) ≡ One

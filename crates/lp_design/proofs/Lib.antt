@@ -3,4 +3,5 @@ pub mod DesignLaws
 pub mod Looks
 mod Retained
 pub mod Runs
-mod ByPins
+pub mod ByPins
+mod RetainedByPins

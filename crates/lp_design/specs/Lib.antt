@@ -8,5 +8,6 @@ pub mod Samples
 pub mod Settled
 pub mod Winners
 pub mod Pins
+pub mod PinRegisters
 pub mod Reads
 pub mod Registers

@@ -1,5 +1,5 @@
 -- A netlist judged by its pins: no domain, strategy or row occurs (Liberty pg_pin, related_power_pin, power_down_function, switch_function; own rule).
-use Rattle.std.specs.Prelude.{◌≡◌, ℕ, zero, suc, ◌+◌, ◌==◌, nat_le, nat_lt, Bool, true, false, not, ◌&&◌, ◌||◌, List, [], ◌∷◌, map, filter, Option, Some, None, option_and_then, if◌then◌else◌, bytes_eq, slice_get, slice_index_or, flat_map}
+use Rattle.std.specs.Prelude.{◌≡◌, ℕ, zero, suc, ◌+◌, ◌==◌, nat_le, nat_lt, Bool, true, false, not, ◌&&◌, ◌||◌, List, map, filter, Option, Some, None, option_and_then, if◌then◌else◌, bytes_eq, slice_get, slice_index_or}
 use Rattle.std.specs.List.{list_all, position, zip}
 use Rattle.lp_tern.specs.declared.tern.Tern.{Tern}
 use Rattle.lp_tern.specs.declared.tern.Tern.TheVariants.{Zero, One, X}
@@ -21,7 +21,7 @@ use Rattle.lp_model.specs.LibraryView.{ExprView, SwitchedView, PgPinView, PinVie
 use Rattle.lp_design.specs.Keys.{Name, Path, same_path, Node, Outer, Fixed, Source, CellPin, SwitchedPin, Environment, From}
 use Rattle.lp_design.specs.Netlists.{Structure, first, cell_at}
 use Rattle.lp_design.specs.Graph.{source_of, trail, beginning}
-use Rattle.lp_design.specs.Settled.{Value, Logic, State, Registers, logic_in, state_in, known, kept, is_on, microvolts, pin_named, node_at_pin, function_of, output_by, function_value}
+use Rattle.lp_design.specs.Settled.{Value, Logic, State, Registers, logic_in, state_in, known, kept, is_on, microvolts, pin_named, node_at_pin, output_by, function_value}
 
 -- ---- supplies
 
