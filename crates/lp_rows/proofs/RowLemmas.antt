@@ -1,9 +1,9 @@
 -- The first row that passes a test.
 use Rattle.std.proofs.Common.{◌≡◌, ◌<◌, ◌≤◌, ◌+◌, ◌==◌, ℕ, zero, suc, Bool, true, false, ◌||◌, List, [], ◌∷◌, take, length, get_or, Option, Some, None, refl, sym, subst, ap, ◌∙◌, arith, add-one}
-use Rattle.std.specs.Prelude.{slice_get}
+use Rattle.std.specs.Prelude.{slice_get, IsSome, ◌↔◌}
 use Rattle.std.specs.List.{list_any}
 use Rattle.std.specs.Option.{option_map}
-use Rattle.std.proofs.lemmas.Bool.{both_ways, eqb-true}
+use Rattle.std.proofs.lemmas.Bool.{both_ways, false≢true, eqb-true}
 use Rattle.std.proofs.lemmas.List.{take_all}
 use Rattle.std.proofs.lemmas.List.Folds.{list_any_more}
 use Rattle.std.proofs.Math.Seq.{take-length}
@@ -11,7 +11,7 @@ use Rattle.std.proofs.lemmas.Option.{slice_get_read, slice_get_within}
 use Rattle.lp_model.specs.declared.supply.Row.{Row}
 use Rattle.lp_model.specs.declared.supply.Supplies.{Supplies}
 use Rattle.lp_model.specs.declared.intent.RowState.{RowState}
-use Rattle.lp_rows.specs.Rows.{row_among, row_of, IsFirstRow}
+use Rattle.lp_rows.specs.Rows.{row_among, row_of, InSomeRow, IsFirstRow}
 
 or_parts : (x y : Bool) → (x || y) ≡ false → (x ≡ false) × (y ≡ false)
 or_parts true y e = cc
@@ -128,3 +128,13 @@ IsFirstRow-same s Holds Other to back (Some n) found = record {
   holds = to found.row found.holds;
   first = λ m other below numbered holds. found.first m other below numbered (back other holds);
 }
+
+-- a first row is there where some row has the fact
+pub IsSome-first : (s : Supplies) (Holds : List RowState → Type 0) (answer : Option ℕ) → IsFirstRow s Holds answer → IsSome answer ↔ InSomeRow s Holds
+IsSome-first s Holds None none = (λ some. absurd (false≢true some), λ held. absurd (none held.0 held.1 held.2 held.3))
+IsSome-first s Holds (Some n) found = (λ some. (n, found.row, found.numbered, found.holds), λ held. refl)
+
+-- both clauses of a call that looks for a row
+pub both_clauses : (s : Supplies) (Holds : List RowState → Type 0) (answer : Option ℕ) → IsFirstRow s Holds answer
+    → record { some : IsSome answer ↔ InSomeRow s Holds; first : IsFirstRow s Holds answer }
+both_clauses s Holds answer found = record { some = IsSome-first s Holds answer found; first = found }

@@ -8,7 +8,7 @@ use Rattle.lp_model.specs.declared.intent.DeclaredState.TheVariants.{On, Off}
 use Rattle.lp_model.specs.declared.intent.RowState.{RowState}
 use Rattle.lp_model.specs.declared.intent.RowState.TheVariants as Listed
 use Rattle.lp_rows.specs.Network.{input_of, root_of, has_part}
-use Rattle.lp_rows.specs.Rows.{listed, allowed}
+use Rattle.lp_rows.specs.Rows.{listed, allowed, InSomeRow}
 
 -- the state is the listed one, where one is listed
 abbrev pub Keeps : RowState → DeclaredState → Type 0
@@ -33,6 +33,10 @@ pub record MayLeak (s : Supplies) (row : List RowState) (a b : ℕ) : Type 0 whe
   pub off : state a ≡ Off
   pub voltage : ℕ
   pub on : state b ≡ On voltage
+
+-- the same in some row
+abbrev pub LeaksInSomeRow : Supplies → ℕ → ℕ → Type 0
+LeaksInSomeRow s a b = InSomeRow s (λ row. MayLeak s row a b)
 
 abbrev pub is_off : RowState → Bool
 is_off Listed.Off = true

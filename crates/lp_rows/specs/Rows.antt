@@ -24,6 +24,10 @@ row_among (row ∷ rows) (suc n) = option_map (λ r. r.states) (slice_get (row �
 abbrev pub row_of : Supplies → ℕ → Option (List RowState)
 row_of s n = row_among s.rows n
 
+-- a fact holds of some row
+abbrev pub InSomeRow : Supplies → (List RowState → Type 0) → Type 0
+InSomeRow s Holds = (n : ℕ) × (row : List RowState) × (row_of s n ≡ Some row) × Holds row
+
 -- the row of a number is the first of which a fact holds
 pub record HoldsFirst (s : Supplies) (Holds : List RowState → Type 0) (n : ℕ) : Type 0 where
   pub row : List RowState
@@ -66,11 +70,15 @@ lower_in s row a b d =
     not (root_of s a == root_of s b)
     && any_lower d (allowed s row (root_of s a)) (allowed s row (root_of s b))
 
+-- the same in some row
+abbrev pub IsLower : Supplies → ℕ → ℕ → ℕ → Type 0
+IsLower s a b d = InSomeRow s (λ row. lower_in s row a b d ≡ true)
+
 -- one allowed state for each port that has states
 abbrev pub IsChoice : Supplies → List RowState → (ℕ → DeclaredState) → Type 0
 IsChoice s row choice = (o : ℕ) → has_part s o ≡ true → Contains (allowed s row o) (choice o)
 
--- the same over all choices: both roots have states, and in some choice they are on, the first with a number added
+-- the test for a row, over all choices: both roots have states, and in some choice they are on, the first with a number added
 -- below the second
 pub record IsLowerByChoice (s : Supplies) (row : List RowState) (a b d : ℕ) : Type 0 where
   pub part_a : has_part s (root_of s a) ≡ true
@@ -113,4 +121,4 @@ within_in s row tuple = list_all (λ e. accepts (allowed s row e.0) e.1) (zip (p
 
 -- own rule: one row allows them all
 abbrev pub IsWithin : Supplies → List SupplyState → Type 0
-IsWithin s tuple = (n : ℕ) × (row : List RowState) × (row_of s n ≡ Some row) × (within_in s row tuple ≡ true)
+IsWithin s tuple = InSomeRow s (λ row. within_in s row tuple ≡ true)

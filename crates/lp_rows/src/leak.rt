@@ -1,8 +1,8 @@
-ghost use Rattle.std.specs.Prelude.{◌≡◌, ◌<◌, length};
+ghost use Rattle.std.specs.Prelude.{◌≡◌, ◌<◌, ◌↔◌, length, IsSome};
 ghost use Rattle.std.specs.List.{list_any};
 ghost use Rattle.lp_rows.specs.Network.{IsNetwork};
 ghost use Rattle.lp_rows.specs.Rows.{IsFirstRow, listed};
-ghost use Rattle.lp_rows.specs.Leaks.{MayLeak, is_off, is_cut, held, keeps_voltage, agrees, fits_with, fits, has_fit, leaks_in, each_below};
+ghost use Rattle.lp_rows.specs.Leaks.{MayLeak, LeaksInSomeRow, is_off, is_cut, held, keeps_voltage, agrees, fits_with, fits, has_fit, leaks_in, each_below};
 
 use crate::network::{input, listed_in, root, states_of_port};
 use lp_model::{DeclaredState, OriginId, RowState, Supplies};
@@ -15,7 +15,8 @@ pub fn leak_row(s: &Supplies, a: OriginId, b: OriginId) -> Option<u32>
     requires network { IsNetwork s.now }
     requires first { a.0 < length s.now.origins }
     requires second { b.0 < length s.now.origins }
-    ensures { IsFirstRow s.now (λ row. MayLeak s.now row a.0 b.0) result }
+    ensures some { IsSome result ↔ LeaksInSomeRow s.now a.0 b.0 }
+    ensures first { IsFirstRow s.now (λ row. MayLeak s.now row a.0 b.0) result }
 {
     let rows = s.rows.as_slice();
     if rows.is_empty() {

@@ -1,6 +1,6 @@
-ghost use Rattle.std.specs.Prelude.{◌<◌, length, IsTrue};
+ghost use Rattle.std.specs.Prelude.{◌<◌, ◌↔◌, length, IsTrue, IsSome};
 ghost use Rattle.lp_rows.specs.Network.{IsNetwork};
-ghost use Rattle.lp_rows.specs.Rows.{IsFirstRow, lower_in};
+ghost use Rattle.lp_rows.specs.Rows.{IsFirstRow, IsLower, lower_in};
 
 use crate::network::{listed_in, root, states_of_port};
 use crate::states::{below, highest, highest_allowed, lowest, lowest_allowed};
@@ -14,7 +14,8 @@ pub fn lower_row(s: &Supplies, a: OriginId, b: OriginId, by: u64) -> Option<u32>
     requires network { IsNetwork s.now }
     requires first { a.0 < length s.now.origins }
     requires second { b.0 < length s.now.origins }
-    ensures { IsFirstRow s.now (λ row. IsTrue (lower_in s.now row a.0 b.0 by)) result }
+    ensures some { IsSome result ↔ IsLower s.now a.0 b.0 by }
+    ensures first { IsFirstRow s.now (λ row. IsTrue (lower_in s.now row a.0 b.0 by)) result }
 {
     let (from, to) = (root(s, a), root(s, b));
     if from == to {

@@ -1,5 +1,4 @@
-ghost use Rattle.std.specs.Prelude.{◌≡◌, ◌<◌, length, slice_index_or, Option};
-ghost use Rattle.std.specs.Option.{option_copied};
+ghost use Rattle.std.specs.Prelude.{◌≡◌};
 ghost use Rattle.lp_rows.specs.Network.{is_ground, port_states, input_of, root_of};
 ghost use Rattle.lp_rows.specs.Rows.{listed};
 

@@ -1,20 +1,22 @@
 use Rattle.std.proofs.Common.{◌≡◌, ◌<◌, ◌+◌, ℕ, true, List, Some, None, Option, length, sym, ap, ◌∙◌}
+use Rattle.std.specs.Prelude.{IsSome, ◌↔◌}
 use Rattle.lp_model.specs.declared.supply.Supplies.{Supplies}
 use Rattle.lp_model.specs.declared.intent.RowState.{RowState}
 use Rattle.lp_rows.specs.Network.{IsNetwork}
 use Rattle.lp_rows.specs.Rows.{IsFirstRow}
-use Rattle.lp_rows.specs.Leaks.{MayLeak, leaks_in}
+use Rattle.lp_rows.specs.Leaks.{MayLeak, LeaksInSomeRow, leaks_in}
 use Rattle.lp_rows.proofs.LeakLemmas.{leaks_in-from, MayLeak-from}
-use Rattle.lp_rows.proofs.RowLemmas.{rows_none, rows_some, all_missed, alone_missed, IsFirstRow-at, IsFirstRow-none, IsFirstRow-alone, IsFirstRow-same}
+use Rattle.lp_rows.proofs.RowLemmas.{rows_none, rows_some, all_missed, alone_missed, IsFirstRow-at, IsFirstRow-none, IsFirstRow-alone, IsFirstRow-same, both_clauses}
 use Rattle.lp_rows.proofs.leak.leak_row.Goals as goal
 
--- the test tells of which rows the leak holds
+-- the test tells of which rows the leak holds, and so gives both clauses
 by_test : (s : Supplies) (a b : ℕ) → IsNetwork s → a < length s.origins → b < length s.origins → (answer : Option ℕ)
-    → IsFirstRow s (λ row. leaks_in s row a b ≡ true) answer → IsFirstRow s (λ row. MayLeak s row a b) answer
-by_test s a b network a_within b_within =
-    IsFirstRow-same s (λ row. leaks_in s row a b ≡ true) (λ row. MayLeak s row a b)
+    → IsFirstRow s (λ row. leaks_in s row a b ≡ true) answer
+    → record { some : IsSome answer ↔ LeaksInSomeRow s a b; first : IsFirstRow s (λ row. MayLeak s row a b) answer }
+by_test s a b network a_within b_within answer found =
+    both_clauses s (λ row. MayLeak s row a b) answer (IsFirstRow-same s (λ row. leaks_in s row a b ≡ true) (λ row. MayLeak s row a b)
     (λ row passed. MayLeak-from s network row a b passed a_within b_within)
-    (λ row leak. leaks_in-from s network row a b leak)
+    (λ row leak. leaks_in-from s network row a b leak) answer found)
 
 pub returns-then-may_leak : goal.returns-then-may_leak
 returns-then-may_leak c =
