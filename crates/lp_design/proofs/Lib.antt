@@ -3,5 +3,3 @@ pub mod DesignLaws
 pub mod Looks
 mod Retained
 pub mod Runs
-pub mod ByPins
-mod RetainedByPins

@@ -7,7 +7,5 @@ pub mod Netlists
 pub mod Samples
 pub mod Settled
 pub mod Winners
-pub mod Pins
-pub mod PinRegisters
 pub mod Reads
 pub mod Registers

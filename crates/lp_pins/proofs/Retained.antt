@@ -15,11 +15,11 @@ use Rattle.lp_model.specs.declared.library.StateKind.TheVariants.{Flop}
 use Rattle.lp_model.specs.NetlistView.{ByName, ModuleView}
 use Rattle.lp_model.specs.LibraryView.{ExprView, PinView, CellView}
 use Rattle.lp_design.specs.Keys.{Name}
-use Rattle.lp_design.specs.Pins.{Surroundings, Powered, PinAssignment, PinEvent, output_by_pins, computed_by_pins}
+use Rattle.lp_pins.specs.Pins.{Surroundings, Powered, PinAssignment, PinEvent, output_by_pins, computed_by_pins}
 use Rattle.lp_design.specs.Registers.{States}
-use Rattle.lp_design.specs.PinRegisters.{states_after_by_pins}
+use Rattle.lp_pins.specs.Registers.{states_after_by_pins}
 use Rattle.lp_design.specs.Samples.{port, cell, pin, never, one_name}
-use Rattle.lp_design.proofs.ByPins.{down, input, supplied, cells, joined, top_supply}
+use Rattle.lp_pins.proofs.Clamped.{down, input, supplied, cells, joined, top_supply}
 
 -- ---- cells
 

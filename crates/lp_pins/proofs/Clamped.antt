@@ -12,7 +12,7 @@ use Rattle.lp_model.specs.NetlistView.{NetBit, ByName, ConnectionView, ModuleVie
 use Rattle.lp_model.specs.LibraryView.{ExprView, PinView, CellView}
 use Rattle.lp_design.specs.Keys.{Name, Inner}
 use Rattle.lp_design.specs.Settled.{Registers}
-use Rattle.lp_design.specs.Pins.{SupplyNodes, Surroundings, Powered, PinEvent, output_by_pins, computed_by_pins}
+use Rattle.lp_pins.specs.Pins.{SupplyNodes, Surroundings, Powered, PinEvent, output_by_pins, computed_by_pins}
 use Rattle.lp_design.specs.Samples.{port, to, cell, pin}
 
 -- ---- cells with a power pin VDD and a ground pin VSS

@@ -11,7 +11,7 @@ use Rattle.lp_design.specs.Keys.{Name, Path}
 use Rattle.lp_design.specs.Netlists.{first, cell_at}
 use Rattle.lp_design.specs.Settled.{kept}
 use Rattle.lp_design.specs.Registers.{States, cell_after}
-use Rattle.lp_design.specs.Pins.{Powered, PinAssignment, PinEvent, pins_read, is_up, SettlesPins}
+use Rattle.lp_pins.specs.Pins.{Powered, PinAssignment, PinEvent, pins_read, is_up, SettlesPins}
 
 -- ---- retention pins
 

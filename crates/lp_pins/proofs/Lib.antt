@@ -1,0 +1,2 @@
+pub mod Clamped
+mod Retained

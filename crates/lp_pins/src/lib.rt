@@ -1,0 +1,2 @@
+//! A netlist judged by its pins: what settles, and how its registers go on.
+#![tactic(auto)]
