@@ -7,6 +7,7 @@ use Rattle.lp_tern.specs.declared.tern.Tern.{Tern}
 use Rattle.lp_tern.specs.declared.supply.SupplyState.TheVariants.{Off}
 use Rattle.lp_tern.specs.Values.{replacements, agreed, choose_of, choose_supply_of}
 use Rattle.lp_expr.specs.Formula.{truth, completions}
+use Rattle.lp_settling.specs.Agreement.{agree-head, agree-tail, agree-left, agree-right}
 use Rattle.lp_settling.specs.Settling.{has, LooksAt}
 use Rattle.lp_model.specs.LibraryView.{ExprView, PinView, CellView}
 use Rattle.lp_design.specs.Keys.{Name, Path, Node, Inner, Outer, Fixed, Source, CellPin, SwitchedPin, Environment, From}
@@ -18,36 +19,22 @@ use Rattle.lp_design.specs.Chains.{Operator, Clamp, Shift, operators_at, rail}
 use Rattle.lp_design.specs.Settled.{Key, At, Of, Logic, State, Assignment, Event, Registers, Design, at, at_some, logic_in, state_in, is_on, both_on, set_at, set_on, kept, known, sensed, active_at, clamped, through, pin_named, state_named, value_named, named_value, function_of, output_by, output_of, node_at_pin, node_equation, origin_equation, equation}
 use Rattle.lp_design.specs.Reads.{set_keys_of, set_keys, node_keys, some_node_keys, control_keys, operator_keys, name_keys, function_keys, output_keys, source_keys, origin_keys, reads, same_key, keys}
 
--- ---- parts of lists
-
-in-left : (j : Key) (xs ys : List Key) → has keys j xs ≡ true → has keys j (xs ++ ys) ≡ true
-in-left j [] ys h = absurd (false≢true h)
-in-left j (x ∷ xs) ys h = step (same_key x j) (in-left j xs ys) h
-  where
-    step : (b : Bool) → (has keys j xs ≡ true → has keys j (xs ++ ys) ≡ true) → (b || has keys j xs) ≡ true → (b || has keys j (xs ++ ys)) ≡ true
-    step true more e = refl
-    step false more e = more e
-
-in-right : (j : Key) (xs ys : List Key) → has keys j ys ≡ true → has keys j (xs ++ ys) ≡ true
-in-right j [] ys h = h
-in-right j (x ∷ xs) ys h = or_right (same_key x j) (has keys j (xs ++ ys)) (in-right j xs ys h)
-
 module _ (A B : Assignment) where
   -- the two give the same values to the keys of a list
   abbrev Agree : List Key → Type 0
   Agree ks = (j : Key) → IsTrue (has keys j ks) → A j ≡ B j
 
   head : (k : Key) (ks : List Key) → Agree (k ∷ ks) → A k ≡ B k
-  head k ks h = h k (or_left (same_key k k) (has keys k ks) (keys.true_same k))
+  head = agree-head keys A B
 
   tail : (k : Key) (ks : List Key) → Agree (k ∷ ks) → Agree ks
-  tail k ks h j g = h j (or_right (same_key k j) (has keys j ks) g)
+  tail = agree-tail keys A B
 
   left : (xs ys : List Key) → Agree (xs ++ ys) → Agree xs
-  left xs ys h j g = h j (in-left j xs ys g)
+  left = agree-left keys A B
 
   right : (xs ys : List Key) → Agree (xs ++ ys) → Agree ys
-  right xs ys h j g = h j (in-right j xs ys g)
+  right = agree-right keys A B
 
   -- ---- values
 

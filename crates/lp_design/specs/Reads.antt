@@ -77,30 +77,30 @@ same_key (At k) (At j) = same_node k j
 same_key (Of o) (Of q) = o == q
 same_key _ _ = false
 
-one : (a b : Bool) → (a && b) ≡ true → a ≡ true
+pub one : (a b : Bool) → (a && b) ≡ true → a ≡ true
 one true b e = refl
 one false b e = absurd (true≢false (sym e))
 
-other : (a b : Bool) → (a && b) ≡ true → b ≡ true
+pub other : (a b : Bool) → (a && b) ≡ true → b ≡ true
 other true b e = e
 other false b e = absurd (true≢false (sym e))
 
-both : (a b : Bool) → a ≡ true → b ≡ true → (a && b) ≡ true
+pub both : (a b : Bool) → a ≡ true → b ≡ true → (a && b) ≡ true
 both a b e f = ap (λ x. x && b) e ∙ f
 
-name-true : (m n : Name) → bytes_eq m n ≡ true → m ≡ n
+pub name-true : (m n : Name) → bytes_eq m n ≡ true → m ≡ n
 name-true m n e = (bytes_eq-Decides m n).0 e
 
-name-self : (m : Name) → bytes_eq m m ≡ true
+pub name-self : (m : Name) → bytes_eq m m ≡ true
 name-self m = (bytes_eq-Decides m m).1 refl
 
-path-true : (p q : Path) → same_path p q ≡ true → p ≡ q
+pub path-true : (p q : Path) → same_path p q ≡ true → p ≡ q
 path-true [] [] e = refl
 path-true [] (b ∷ q) e = absurd (true≢false (sym e))
 path-true (a ∷ p) [] e = absurd (true≢false (sym e))
 path-true (a ∷ p) (b ∷ q) e = λ i. name-true a b (one (bytes_eq a b) (same_path p q) e) i ∷ path-true p q (other (bytes_eq a b) (same_path p q) e) i
 
-path-self : (p : Path) → same_path p p ≡ true
+pub path-self : (p : Path) → same_path p p ≡ true
 path-self [] = refl
 path-self (a ∷ p) = both (bytes_eq a a) (same_path p p) (name-self a) (path-self p)
 
@@ -123,7 +123,7 @@ bool-self : (a : Bool) → same_bool a a ≡ true
 bool-self true = refl
 bool-self false = refl
 
-node-true : (k j : Node) → same_node k j ≡ true → k ≡ j
+pub node-true : (k j : Node) → same_node k j ≡ true → k ≡ j
 node-true (Inner m i p) (Inner n j q) e = λ r.
     Inner (name-true m n (one (bytes_eq m n) (same_index i j && same_path p q) e) r)
     (index-true i j (one (same_index i j) (same_path p q) (other (bytes_eq m n) (same_index i j && same_path p q) e)) r)
@@ -137,7 +137,7 @@ node-true (Outer m i) (Fixed b) e = absurd (true≢false (sym e))
 node-true (Fixed a) (Inner n j q) e = absurd (true≢false (sym e))
 node-true (Fixed a) (Outer n j) e = absurd (true≢false (sym e))
 
-node-self : (k : Node) → same_node k k ≡ true
+pub node-self : (k : Node) → same_node k k ≡ true
 node-self (Inner m i p) = both (bytes_eq m m) (same_index i i && same_path p p) (name-self m) (both (same_index i i) (same_path p p) (index-self i) (path-self p))
 node-self (Outer m i) = both (bytes_eq m m) (same_index i i) (name-self m) (index-self i)
 node-self (Fixed a) = bool-self a

@@ -1,2 +1,4 @@
 pub mod Clamped
+pub mod Looks
 mod Retained
+pub mod Runs

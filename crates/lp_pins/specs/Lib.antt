@@ -1,2 +1,4 @@
 pub mod Pins
+pub mod Reads
 pub mod Registers
+pub mod Supplied

@@ -1,6 +1,6 @@
 -- A netlist judged by its pins: no domain, strategy or row occurs (Liberty pg_pin, related_power_pin, power_down_function, switch_function; own rule).
-use Rattle.std.specs.Prelude.{◌≡◌, ℕ, zero, suc, ◌+◌, ◌==◌, nat_le, nat_lt, Bool, true, false, not, ◌&&◌, ◌||◌, List, map, filter, Option, Some, None, option_and_then, if◌then◌else◌, bytes_eq, slice_get, slice_index_or}
-use Rattle.std.specs.List.{list_all, position, zip}
+use Rattle.std.specs.Prelude.{◌≡◌, ℕ, zero, suc, ◌+◌, ◌==◌, nat_le, nat_lt, Bool, true, false, not, ◌&&◌, ◌||◌, List, map, filter, Option, Some, None, option_and_then, if◌then◌else◌, bytes_eq, slice_get}
+use Rattle.std.specs.List.{list_all, zip}
 use Rattle.lp_tern.specs.declared.tern.Tern.{Tern}
 use Rattle.lp_tern.specs.declared.tern.Tern.TheVariants.{Zero, One, X}
 use Rattle.lp_tern.specs.declared.supply.SupplyState.{SupplyState}
@@ -18,7 +18,7 @@ use Rattle.lp_model.specs.declared.library.ShifterKind.{ShifterKind}
 use Rattle.lp_model.specs.declared.library.ShifterKind.TheVariants.{LowToHigh, HighToLow, Both}
 use Rattle.lp_model.specs.declared.library.VoltageRange.{VoltageRange}
 use Rattle.lp_model.specs.LibraryView.{ExprView, SwitchedView, PgPinView, PinView, CellView}
-use Rattle.lp_design.specs.Keys.{Name, Path, same_path, Node, Outer, Fixed, Source, CellPin, SwitchedPin, Environment, From}
+use Rattle.lp_design.specs.Keys.{Name, Path, same_path, Node, Inner, Outer, Fixed, Source, CellPin, SwitchedPin, Environment, From}
 use Rattle.lp_design.specs.Netlists.{Structure, first, cell_at}
 use Rattle.lp_design.specs.Graph.{source_of, trail, beginning}
 use Rattle.lp_design.specs.Settled.{Value, Logic, State, Registers, logic_in, state_in, known, kept, is_on, microvolts, pin_named, node_at_pin, output_by, function_value}
@@ -89,9 +89,12 @@ state_at w B k = state_from B (supply_of_node w k)
 abbrev pub supply_of_pin : Powered → Path → Name → Name → Option SupplySource
 supply_of_pin w p x g = option_and_then (supply_of_node w) (node_at_pin w.structure p x g)
 
+abbrev pub source_of_pg : Powered → Path → Name → Option PgPinView → Option SupplySource
+source_of_pg w p x None = None
+source_of_pg w p x (Some g) = supply_of_pin w p x g.name
+
 abbrev pub state_of_pg : Powered → PinAssignment → Path → Name → Option PgPinView → SupplyState
-state_of_pg w B p x None = Unknown
-state_of_pg w B p x (Some g) = state_from B (supply_of_pin w p x g.name)
+state_of_pg w B p x g = state_from B (source_of_pg w p x g)
 
 -- a related ground that a cell lacks counts as on
 abbrev pub state_of_ground : Powered → PinAssignment → Path → Name → CellView → Option ℕ → SupplyState
@@ -118,14 +121,21 @@ state_pair w B s = record { power = state_at w B s.power; gnd = state_at w B s.g
 
 -- ---- what drives a node
 
+abbrev pub related_of_pin : Powered → PinAssignment → Path → Name → CellView → Option PinView → Option Pair
+related_of_pin w B p x c None = None
+related_of_pin w B p x c (Some q) = Some (related w B p x c q)
+
 abbrev pub related_of : Powered → PinAssignment → Path → Name → Option CellView → Name → Option Pair
 related_of w B p x None q = None
-related_of w B p x (Some c) q = option_and_then (λ v. Some (related w B p x c v)) (pin_named c q)
+related_of w B p x (Some c) q = related_of_pin w B p x c (pin_named c q)
 
 -- the related supply of the pin in which a node's wire begins
 abbrev pub pin_supply_begun : Powered → PinAssignment → Option Source → Option Pair
+pin_supply_begun w B None = None
 pin_supply_begun w B (Some (CellPin p x q)) = related_of w B p x (cell_at w.structure p x) q
-pin_supply_begun w B _ = None
+pin_supply_begun w B (Some (SwitchedPin p x q)) = None
+pin_supply_begun w B (Some Environment) = None
+pin_supply_begun w B (Some (From way j)) = None
 
 abbrev pub pin_supply : Powered → PinAssignment → Node → Option Pair
 pin_supply w B k = pin_supply_begun w B (source_of w.structure (begins w k))
@@ -159,10 +169,14 @@ is_input_pin q = by q.direction
     by Input = true
     by Output = false
 
+abbrev pub input_value : Powered → PinAssignment → Path → Name → CellView → PinView → Node → Bool → Tern
+input_value w B p x c q k true = read_by w B k (related w B p x c q)
+input_value w B p x c q k false = signal_at B k
+
 abbrev pub pin_value : Powered → PinAssignment → Path → Name → CellView → Option PinView → Option Node → Tern
-pin_value w B p x c q None = X
-pin_value w B p x c None (Some k) = X
-pin_value w B p x c (Some q) (Some k) = if is_input_pin q then read_by w B k (related w B p x c q) else signal_at B k
+pin_value w B p x c None k = X
+pin_value w B p x c (Some q) None = X
+pin_value w B p x c (Some q) (Some k) = input_value w B p x c q k (is_input_pin q)
 
 abbrev pub pins_read : Powered → PinAssignment → Path → Name → CellView → Name → Tern
 pins_read w B p x c v = pin_value w B p x c (pin_named c v) (node_at_pin w.structure p x v)
@@ -183,17 +197,13 @@ onness (On v) = One
 onness Off = Zero
 onness Unknown = X
 
+abbrev pub pg_named : CellView → Name → Option PgPinView
+pg_named c v = first (λ (g : PgPinView). bytes_eq g.name v) c.pgs
+
 -- a power pin is 1 where its supply is on, a ground pin where it is not
 abbrev pub level_by : Option PgPinView → Bool → Bool
-level_by None on = false
+level_by None on = on
 level_by (Some g) on = if is_power g.kind then on else not on
-
-abbrev pub level_named : CellView → List Bool → Name → Bool
-level_named c ons v = by (position (λ (g : PgPinView). bytes_eq g.name v) c.pgs)
-  where
-    by : Option ℕ → Bool
-    by None = false
-    by (Some place) = level_by (slice_get c.pgs place) (slice_index_or ons place false)
 
 abbrev pub agree_if_same : Option SupplySource × Bool → Option SupplySource × Bool → Bool
 agree_if_same (Some a, on) (Some b, also) = not (same_source a b) || (if on then also else not also)
@@ -203,15 +213,21 @@ agree_if_same _ _ = true
 abbrev pub is_consistent : List (Option SupplySource × Bool) → Bool
 is_consistent all = list_all (λ a. list_all (agree_if_same a) all) all
 
-abbrev pub pg_sources : Powered → Path → Name → CellView → List (Option SupplySource)
-pg_sources w p x c = map (λ (g : PgPinView). supply_of_pin w p x g.name) c.pgs
+-- the supplies of the pins that a function names
+abbrev pub sources_named : Powered → Path → Name → CellView → List Name → List (Option SupplySource)
+sources_named w p x c names = map (λ v. source_of_pg w p x (pg_named c v)) names
 
--- a power-down function is 0 where every replacement of unknown supplies makes it 0
+abbrev pub levels : CellView → List Name → List Bool → List Bool
+levels c names ons = map (λ a. level_by (pg_named c a.0) a.1) (zip names ons)
+
+-- every replacement of unknown supplies makes the function 0
+abbrev pub is_zero_for : CellView → ExprView → List (Option SupplySource) → List Tern → Bool
+is_zero_for c e sources ons = list_all (λ bits. not (truth e.steps (levels c e.variables bits))) (filter (λ bits. is_consistent (zip sources bits)) (completions ons))
+
+-- a power-down function is 0, whatever unknown supplies are
 abbrev pub is_up : Powered → PinAssignment → Path → Name → CellView → Option ExprView → Bool
 is_up w B p x c None = false
-is_up w B p x c (Some e) =
-    list_all (λ ons. not (truth e.steps (map (level_named c ons) e.variables)))
-    (filter (λ ons. is_consistent (zip (pg_sources w p x c) ons)) (completions (map (λ s. onness (state_from B s)) (pg_sources w p x c))))
+is_up w B p x c (Some e) = is_zero_for c e (sources_named w p x c e.variables) (map (λ s. onness (state_from B s)) (sources_named w p x c e.variables))
 
 -- ---- level shifters
 
@@ -238,18 +254,23 @@ is_data q = by q.use_of
     by ShiftData = true
     by _ = false
 
+abbrev pub driving_pin : Powered → PinAssignment → Option Node → Option Pair
+driving_pin w B None = None
+driving_pin w B (Some k) = pin_supply w B k
+
 -- the input supply of a shifter: that of its data pin, or that of the driving pin where data and output relate to one power pin
-abbrev pub input_supply : Powered → PinAssignment → Path → Name → CellView → PinView → PinView → Option Pair
-input_supply w B p x c input out =
-    if input.power == out.power then option_and_then (pin_supply w B) (node_at_pin w.structure p x input.name) else Some (related w B p x c input)
+abbrev pub input_supply : Powered → PinAssignment → Path → Name → CellView → PinView → Bool → Option Pair
+input_supply w B p x c input true = driving_pin w B (node_at_pin w.structure p x input.name)
+input_supply w B p x c input false = Some (related w B p x c input)
 
 abbrev pub outside_by : Shifter → Option Pair → Pair → Bool
 outside_by f None t = false
 outside_by f (Some r) t = is_outside f r t
 
 abbrev pub is_unfit_at : Powered → PinAssignment → Path → Name → CellView → PinView → Option Shifter → Option PinView → Bool
-is_unfit_at w B p x c out (Some f) (Some input) = outside_by f (input_supply w B p x c input out) (related w B p x c out)
-is_unfit_at w B p x c out _ _ = false
+is_unfit_at w B p x c out None input = false
+is_unfit_at w B p x c out (Some f) None = false
+is_unfit_at w B p x c out (Some f) (Some input) = outside_by f (input_supply w B p x c input (input.power == out.power)) (related w B p x c out)
 
 abbrev pub is_unfit : Powered → PinAssignment → Path → Name → CellView → PinView → Bool
 is_unfit w B p x c out = is_unfit_at w B p x c out c.roles.shifter (first is_data c.pins)
@@ -270,22 +291,30 @@ pub record PinEvent : Type 0 where
   pub inputs : Name → Option ℕ → Tern
   pub supplies : Name → SupplyState
 
-abbrev pub top_input : Powered → PinEvent → PinAssignment → Name → Option ℕ → Tern
-top_input w ev B n j = if w.around.is_supply n then X else kept (pair_on (state_pair w B (w.around.driver n))) (ev.inputs n j)
+abbrev pub top_input : Powered → PinEvent → PinAssignment → Name → Option ℕ → Bool → Tern
+top_input w ev B n j true = X
+top_input w ev B n j false = kept (pair_on (state_pair w B (w.around.driver n))) (ev.inputs n j)
 
 abbrev pub signal_equation : Powered → PinEvent → Registers → PinAssignment → Node → Option Source → Tern
-signal_equation w ev regs B (Outer n j) (Some Environment) = top_input w ev B n j
+signal_equation w ev regs B k None = X
 signal_equation w ev regs B k (Some (CellPin p x q)) = cell_output_at w B regs p x q (cell_at w.structure p x)
+signal_equation w ev regs B k (Some (SwitchedPin p x q)) = X
 signal_equation w ev regs B k (Some (From way j)) = signal_at B j
-signal_equation w ev regs B k _ = X
+signal_equation w ev regs B (Outer n j) (Some Environment) = top_input w ev B n j (w.around.is_supply n)
+signal_equation w ev regs B (Inner n j p) (Some Environment) = X
+signal_equation w ev regs B (Fixed b) (Some Environment) = X
 
 abbrev pub switched_state : Powered → PinAssignment → Registers → Path → Name → CellView → Option SwitchedView → SupplyState
 switched_state w B regs p x c None = Unknown
 switched_state w B regs p x c (Some s) = choose_supply_of (function_value c (pins_read w B p x c) (regs p x) s.off) Off (state_of_pg w B p x (slice_get c.pgs s.passes))
 
+abbrev pub switched_of : Option PgPinView → Option SwitchedView
+switched_of None = None
+switched_of (Some g) = g.switched
+
 abbrev pub switch_equation : Powered → PinAssignment → Registers → Path → Name → Name → Option CellView → SupplyState
 switch_equation w B regs p x g None = Unknown
-switch_equation w B regs p x g (Some c) = switched_state w B regs p x c (option_and_then (λ (v : PgPinView). v.switched) (first (λ (v : PgPinView). bytes_eq v.name g) c.pgs))
+switch_equation w B regs p x g (Some c) = switched_state w B regs p x c (switched_of (pg_named c g))
 
 abbrev pub pin_equation : Powered → PinEvent → Registers → PinKey → PinAssignment → Value
 pin_equation w ev regs (Signal k) B = Logic (signal_equation w ev regs B k (source_of w.structure k))

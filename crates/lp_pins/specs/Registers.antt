@@ -1,5 +1,5 @@
 -- The states of registers after an event, by pins (Liberty ff, latch and retention_cell; own rule).
-use Rattle.std.specs.Prelude.{Bool, List, [], ◌∷◌, Option, Some, None, option_and_then, is_some}
+use Rattle.std.specs.Prelude.{◌≡◌, Bool, List, [], ◌∷◌, Option, Some, None, option_and_then, is_some}
 use Rattle.lp_tern.specs.declared.tern.Tern.{Tern}
 use Rattle.lp_tern.specs.declared.tern.Tern.TheVariants.{X}
 use Rattle.lp_model.specs.declared.library.Action.{Action}
@@ -82,3 +82,9 @@ IsRunByPins w last s [] [] = Unit {0}
 IsRunByPins w last s (ev ∷ events) (B ∷ more) = SettlesPins w ev s.main B × IsRunByPins w (Some B) (states_after_by_pins w last B s) events more
 IsRunByPins w last s [] (B ∷ more) = ⊥
 IsRunByPins w last s (ev ∷ events) [] = ⊥
+
+-- there is a run, and it is the only one
+pub record RunsOnceByPins (w : Powered) (last : Option PinAssignment) (s : States) (events : List PinEvent) : Type 0 where
+  pub run : List PinAssignment
+  pub is_run : IsRunByPins w last s events run
+  pub only : (other : List PinAssignment) → IsRunByPins w last s events other → other ≡ run
