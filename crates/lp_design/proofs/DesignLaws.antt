@@ -55,7 +55,7 @@ clamp-holds n i A v t s k is active-now on =
     ∙ clamped-active A k v active-now
 
 -- what a set that is not on keeps is lost
-kept-off : (b : Bool) (v : Tern) → b ≡ false → kept b v ≡ X
+pub kept-off : (b : Bool) (v : Tern) → b ≡ false → kept b v ≡ X
 kept-off b v off = ap (λ x. kept x v) off
 
 and-off : (a b : Bool) → b ≡ false → (a && b) ≡ false
@@ -68,5 +68,14 @@ through-off n i A r v (Clamp t s ∷ operators) lost off =
     through-off n i A (Some s) (kept (set_on n A (Some s)) (clamped A (slice_get i.strategies t) v)) operators
     (λ h. kept-off (set_on n A (Some s)) (clamped A (slice_get i.strategies t) v) h) off
 through-off n i A r v (Shift t a b ∷ operators) lost off =
+    through-off n i A (Some b) (kept (set_on n A (Some a) && set_on n A (Some b)) v) operators
+    (λ h. kept-off (set_on n A (Some a) && set_on n A (Some b)) v (and-off (set_on n A (Some a)) (set_on n A (Some b)) h)) off
+
+-- behind an operator
+pub step-off : (n : Network) (i : Intent) (A : Assignment) (v : Tern) (o : Operator) (operators : List Operator) → set_on n A (rail_after (Some (supply_behind o)) operators) ≡ false → through n i A v (o ∷ operators) ≡ X
+step-off n i A v (Clamp t s) operators off =
+    through-off n i A (Some s) (kept (set_on n A (Some s)) (clamped A (slice_get i.strategies t) v)) operators
+    (λ h. kept-off (set_on n A (Some s)) (clamped A (slice_get i.strategies t) v) h) off
+step-off n i A v (Shift t a b) operators off =
     through-off n i A (Some b) (kept (set_on n A (Some a) && set_on n A (Some b)) v) operators
     (λ h. kept-off (set_on n A (Some a) && set_on n A (Some b)) v (and-off (set_on n A (Some a)) (set_on n A (Some b)) h)) off

@@ -3,3 +3,4 @@ pub mod DesignLaws
 pub mod Looks
 mod Retained
 pub mod Runs
+pub mod Corrupted

@@ -1,8 +1,7 @@
 -- Each equation looks only at what occurs in it.
-use Rattle.std.proofs.Common.{◌≡◌, ℕ, Bool, true, false, ◌||◌, ◌&&◌, List, [], ◌∷◌, ◌++◌, Option, Some, None, refl, ap}
+use Rattle.std.proofs.Common.{◌≡◌, ℕ, Bool, ◌&&◌, List, [], ◌∷◌, ◌++◌, Option, Some, None, refl, ap}
 use Rattle.std.specs.Prelude.{IsTrue, map, slice_get}
 use Rattle.std.specs.List.{flat_map}
-use Rattle.std.proofs.lemmas.Bool.{or_left, or_right, false≢true}
 use Rattle.lp_tern.specs.declared.tern.Tern.{Tern}
 use Rattle.lp_tern.specs.declared.supply.SupplyState.TheVariants.{Off}
 use Rattle.lp_tern.specs.Values.{replacements, agreed, choose_of, choose_supply_of}
@@ -17,7 +16,7 @@ use Rattle.lp_design.specs.Intents.{SetNumber, SupplySet, Origin, FromPort, From
 use Rattle.lp_design.specs.Domains.{domain_of, primary_of, start_rail}
 use Rattle.lp_design.specs.Chains.{Operator, Clamp, Shift, operators_at, rail}
 use Rattle.lp_design.specs.Settled.{Key, At, Of, Logic, State, Assignment, Event, Registers, Design, at, at_some, logic_in, state_in, is_on, both_on, set_at, set_on, kept, known, sensed, active_at, clamped, through, pin_named, state_named, value_named, named_value, function_of, output_by, output_of, node_at_pin, node_equation, origin_equation, equation}
-use Rattle.lp_design.specs.Reads.{set_keys_of, set_keys, node_keys, some_node_keys, control_keys, operator_keys, name_keys, function_keys, output_keys, source_keys, origin_keys, reads, same_key, keys}
+use Rattle.lp_design.specs.Reads.{set_keys_of, set_keys, node_keys, some_node_keys, control_keys, operator_keys, name_keys, function_keys, output_keys, source_keys, origin_keys, reads, keys}
 
 module _ (A B : Assignment) where
   -- the two give the same values to the keys of a list

@@ -10,7 +10,7 @@ use Rattle.lp_model.specs.NetlistView.{InstanceView}
 use Rattle.lp_model.specs.LibraryView.{ExprView, PinView, StateView, CellView}
 use Rattle.lp_design.specs.Keys.{Name, Path, Node, Outer, Fixed, Source, CellPin, SwitchedPin, Environment, From}
 use Rattle.lp_design.specs.Netlists.{Structure, first, module_at, cell_at, instance_named}
-use Rattle.lp_design.specs.Graph.{source_of, pin_node}
+use Rattle.lp_design.specs.Graph.{source_of, trail, pin_node}
 use Rattle.lp_design.specs.Intents.{SetNumber, SupplySet, Origin, FromPort, FromSwitch, Strategy, Intent, Network}
 use Rattle.lp_design.specs.Domains.{domain_of, primary_of, start_rail}
 use Rattle.lp_design.specs.Chains.{Operator, Clamp, Shift, operators_at, rail}
@@ -163,6 +163,10 @@ pub record Design : Type 0 where
   pub network : Network
   pub intent : Intent
   pub fuel : ℕ
+
+-- no way back is longer than the fuel
+abbrev pub HasFuel : Design → Type 0
+HasFuel d = (k : Node) → trail d.structure (suc d.fuel) k ≡ trail d.structure d.fuel k
 
 -- a top input is driven where its driver supply is on, a cell output has its function where its domain's primary supply is on, a way passes its operators
 abbrev pub node_equation : Design → Event → Registers → Assignment → Node → Option Source → Tern

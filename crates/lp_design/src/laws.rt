@@ -8,7 +8,9 @@ ghost use Rattle.lp_design.specs.Intents.{SetNumber, Strategy, Intent, Network};
 ghost use Rattle.lp_design.specs.Winners.{Crossing, IsIn, applying, rank, winner};
 ghost use Rattle.lp_design.specs.Chains.{Operator, Clamp, by_rule, clamp_of, part, rail_after, target};
 ghost use Rattle.lp_settling.specs.Settling.{IsOrder, Covers, SettlesOnce};
-ghost use Rattle.lp_design.specs.Settled.{Assignment, Design, Event, Key, Registers, active, equation, known, set_on, through};
+ghost use Rattle.lp_design.specs.Keys.{Node};
+ghost use Rattle.lp_design.specs.Chains.{rail};
+ghost use Rattle.lp_design.specs.Settled.{Assignment, Design, Event, HasFuel, Key, Registers, SettlesIntent, active, at, equation, known, set_on, through};
 ghost use Rattle.lp_design.specs.Reads.{keys, reads};
 ghost use Rattle.lp_design.specs.Registers.{States, RunsOnce};
 
@@ -48,4 +50,9 @@ pub fn settles_once()
 /// anything did, and from the states of its registers.
 pub fn runs_once()
     ensures { (d : Design) (last : Option Assignment) (states : States) (events : List Event) (order : List Key) → IsOrder keys (reads d) order → Covers keys (reads d) order → RunsOnce d last states events }
+{}
+
+/// A node whose rail is not on is X in every assignment that settles under intent.
+pub fn lost_where_the_rail_is_off()
+    ensures { (d : Design) (event : Event) (registers : Registers) (A : Assignment) → SettlesIntent d event registers A → HasFuel d → (k : Node) (r : SetNumber) → rail d.structure d.network d.intent d.fuel k ≡ Some r → set_on d.network A (Some r) ≡ false → at A k ≡ X }
 {}

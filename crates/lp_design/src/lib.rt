@@ -5,6 +5,6 @@
 mod laws;
 
 pub use laws::{
-    active_clamp_holds, lost_behind_an_off_supply, rails_go_on, runs_once, settles_once,
-    unwanted_shifter_stays_out, winner_is_alone,
+    active_clamp_holds, lost_behind_an_off_supply, lost_where_the_rail_is_off, rails_go_on,
+    runs_once, settles_once, unwanted_shifter_stays_out, winner_is_alone,
 };
