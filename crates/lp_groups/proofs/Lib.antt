@@ -1,0 +1,4 @@
+mod Attrs
+mod Found
+mod Joined
+mod Zipper

@@ -1,3 +1,5 @@
 pub mod Grammar
 pub mod Lexing
+pub mod Machine
 pub mod Meaning
+pub mod Tokens

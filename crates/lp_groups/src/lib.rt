@@ -5,4 +5,5 @@ mod decode;
 mod gap;
 mod lexed;
 mod mark;
+mod reader;
 mod runs;

@@ -61,3 +61,29 @@ pub(crate) enum Gap {
     /// Right behind the star that closes a comment.
     Closing,
 }
+
+/// What was read last among arguments.
+#[derive(Clone, Copy, Debug, PartialEq, Eq)]
+pub(crate) enum Last {
+    /// The opening parenthesis.
+    Nothing,
+    /// An argument.
+    Name,
+    /// A comma.
+    Comma,
+}
+
+/// What a reader has read of the current statement.
+#[derive(Clone, Copy, Debug, PartialEq, Eq)]
+pub(crate) enum Mode {
+    /// Nothing: whether a semicolon may stand here.
+    Begin(bool),
+    /// Its word.
+    Named,
+    /// Arguments.
+    Args(Last),
+    /// All arguments, with the closing parenthesis.
+    Behind,
+    /// Items of a simple attribute.
+    Items,
+}
