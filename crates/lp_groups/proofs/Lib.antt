@@ -1,4 +1,5 @@
 mod Attrs
 mod Found
 mod Joined
+mod Leaving
 mod Zipper
