@@ -2,4 +2,5 @@ mod Attrs
 mod Found
 mod Joined
 mod Leaving
+mod Shown
 mod Zipper
