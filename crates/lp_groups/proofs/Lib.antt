@@ -3,4 +3,5 @@ mod Found
 mod Joined
 mod Leaving
 mod Shown
+mod Simulation
 mod Zipper
