@@ -1,7 +1,9 @@
 mod Attrs
+mod Few
 mod Found
 mod Joined
 mod Leaving
+mod Running
 mod Shown
 mod Simulation
 mod Zipper

@@ -114,6 +114,12 @@ mark_of b =
     else if b == 10 then marks.LineEnd
     else marks.Broken
 
+abbrev pub is_end : Sort → Bool
+is_end sorts.End = true
+is_end sorts.Word = false
+is_end sorts.Quoted = false
+is_end (sorts.Mark k) = false
+
 abbrev pub is_items : Context → Bool
 is_items contexts.Items = true
 is_items contexts.Statement = false

@@ -2,4 +2,5 @@ pub mod Grammar
 pub mod Lexing
 pub mod Machine
 pub mod Meaning
+pub mod Outcome
 pub mod Tokens

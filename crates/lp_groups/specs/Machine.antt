@@ -158,20 +158,38 @@ pub data Reading : Type 0 where
   Deep : ℕ → Reading
   Long : ℕ → Reading
 
-abbrev pub going_on : Reading → (Machine → Reading) → Option Machine → Reading
-going_on stop more None = stop
-going_on stop more (Some m) = more m
+-- a token is taken, with the table of names behind it, or ends the reading
+pub data Step : Type 0 where
+  Taken : List (List ℕ) → Machine → Step
+  Refused : Reading → Step
+
+abbrev pub stepped : Reading → List (List ℕ) → Option Machine → Step
+stepped stop names None = Refused stop
+stepped stop names (Some m) = Taken names m
 
 abbrev pub numbered_as : List (List ℕ) → List ℕ → NameId
 numbered_as names text = record { 0 = unwrap_or (place_of text names) 0 }
 
-abbrev pub read_one : (List (List ℕ) → Machine → Reading) → List (List ℕ) → Machine → ℕ → Token → Reading
-read_one more names m at (Name quoted w) =
-    let new = with_text names w in
-    going_on (Stopped at) (more new) (name_in quoted (numbered_as new w) at m)
-read_one more names m at (Sign k) = going_on (if is_deep_by m.mode k then Deep m.head else Stopped at) (more names) (mark_in k m)
+abbrev pub taken_in : List (List ℕ) → Machine → ℕ → Token → Step
+taken_in names m at (Name quoted w) = stepped (Stopped at) (with_text names w) (name_in quoted (numbered_as (with_text names w) w) at m)
+taken_in names m at (Sign k) = stepped (if is_deep_by m.mode k then Deep m.head else Stopped at) names (mark_in k m)
+
+abbrev pub step_in : List (List ℕ) → Machine → Placed → Step
+step_in names m t = if nat_lt 1048576 t.size then Refused (Long t.at) else taken_in names m t.at t.token
+
+abbrev pub read_on : (List (List ℕ) → Machine → Reading) → Step → Reading
+read_on more (Taken names m) = more names m
+read_on more (Refused r) = r
+
+abbrev pub finished : ℕ → List (List ℕ) → Machine → Reading
+finished size names m = if is_done_by m.mode m.opened then Whole names m.groups else Stopped size
 
 -- from some tokens on, in a text of this many bytes
 abbrev pub read_in : ℕ → List (List ℕ) → Machine → List Placed → Reading
-read_in size names m [] = if is_done_by m.mode m.opened then Whole names m.groups else Stopped size
-read_in size names m (t ∷ tokens) = if nat_lt 1048576 t.size then Long t.at else read_one (λ new n. read_in size new n tokens) names m t.at t.token
+read_in size names m [] = finished size names m
+read_in size names m (t ∷ tokens) = read_on (λ new n. read_in size new n tokens) (step_in names m t)
+
+-- the next token is taken, if there is one
+abbrev pub step_at : List (List ℕ) → Machine → ℕ → ℕ → Option Token → Step
+step_at names m at size None = if nat_lt 1048576 size then Refused (Long at) else Taken names m
+step_at names m at size (Some t) = step_in names m (record { at = at; size = size; token = t })

@@ -1,5 +1,5 @@
 ghost use Rattle.std.specs.Prelude.{◌≡◌, ◌+◌, ◌≤◌, length, drop};
-ghost use Rattle.lp_groups.specs.Lexing.{beginning, is_args, is_glued, is_items, lexed_at, mark_of, quoted_at, word_at};
+ghost use Rattle.lp_groups.specs.Lexing.{beginning, is_args, is_end, is_glued, is_items, lexed_at, mark_of, quoted_at, word_at};
 
 use crate::gap::skip;
 use crate::mark::{Context, Mark, Sort};
@@ -34,6 +34,18 @@ fn mark_of(byte: u8) -> Mark
         b',' => Mark::Comma,
         b'\n' => Mark::LineEnd,
         _ => Mark::Broken,
+    }
+}
+
+impl Lexed {
+    /// Whether the text ends instead.
+    pub(crate) fn is_end(&self) -> bool
+        ensures { result ≡ is_end self.now.sort }
+    {
+        match self.sort {
+            Sort::End => true,
+            Sort::Word | Sort::Quoted | Sort::Mark(_) => false,
+        }
     }
 }
 

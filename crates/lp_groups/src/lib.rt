@@ -6,4 +6,5 @@ mod gap;
 mod lexed;
 mod mark;
 mod reader;
+mod run;
 mod runs;
