@@ -1,8 +1,10 @@
+mod Always
 mod Attrs
 mod Few
 mod Found
 mod Joined
 mod Leaving
+mod Reading
 mod Running
 mod Shown
 mod Simulation

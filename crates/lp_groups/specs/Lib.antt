@@ -1,3 +1,4 @@
+pub mod Denotes
 pub mod Grammar
 pub mod Lexing
 pub mod Machine
