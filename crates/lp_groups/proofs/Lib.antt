@@ -1,4 +1,5 @@
 mod Always
+mod Answered
 mod Attrs
 mod Few
 mod Found
@@ -8,4 +9,5 @@ mod Reading
 mod Running
 mod Shown
 mod Simulation
+mod Within
 mod Zipper

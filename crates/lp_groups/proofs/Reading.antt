@@ -46,7 +46,7 @@ drop_map f zero xs = refl
 drop_map f (suc k) [] = refl
 drop_map f (suc k) (x ∷ xs) = drop_map f k xs
 
-index_here : (end k : ℕ) (tokens : List Placed) (t : Placed) (rest : List Placed) → drop k tokens ≡ t ∷ rest → t.at ≡ index_in end tokens k
+pub index_here : (end k : ℕ) (tokens : List Placed) (t : Placed) (rest : List Placed) → drop k tokens ≡ t ∷ rest → t.at ≡ index_in end tokens k
 index_here end zero tokens t rest e = ap (λ xs. index_in end xs 0) (sym e)
 index_here end (suc k) [] t rest e = absurd cc
 index_here end (suc k) (x ∷ tokens) t rest e = index_here end k tokens t rest e

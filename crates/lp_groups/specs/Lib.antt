@@ -4,4 +4,5 @@ pub mod Lexing
 pub mod Machine
 pub mod Meaning
 pub mod Outcome
+pub mod Stops
 pub mod Tokens

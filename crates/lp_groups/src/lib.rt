@@ -3,8 +3,13 @@
 
 mod decode;
 mod gap;
+mod laws;
 mod lexed;
 mod mark;
+mod read;
 mod reader;
 mod run;
 mod runs;
+
+pub use laws::one_list_of_groups;
+pub use read::read_groups;
