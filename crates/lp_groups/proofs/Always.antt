@@ -1,5 +1,5 @@
 -- Where groups may be of any depth, the machine goes on as with a limit, but for the brace of a group that is too deep.
-use Rattle.std.proofs.Common.{◌≡◌, ℕ, suc, Bool, true, false, List, [], ◌∷◌, length, Option, Some, None, refl, sym, ap, ◌∙◌}
+use Rattle.std.proofs.Common.{◌≡◌, ℕ, Bool, true, false, List, [], ◌∷◌, Option, Some, None, refl, ap, ◌∙◌}
 use Rattle.std.specs.Prelude.{if◌then◌else◌, option_and_then}
 use Rattle.lp_place.specs.Machines.{steps}
 use Rattle.lp_groups.specs.declared.mark.Mark.{Mark}

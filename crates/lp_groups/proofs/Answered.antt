@@ -1,14 +1,13 @@
 -- The answers of the reader, from those of the list machine.
-use Rattle.std.proofs.Common.{◌≡◌, ℕ, ◌≤◌, List, Option, None, Result, Ok, Err, IfOk, IfErr, length, map, refl, sym, ap, ◌∙◌, subst, arith}
+use Rattle.std.proofs.Common.{◌≡◌, ℕ, ◌≤◌, List, None, Result, Ok, Err, IfOk, length, map, sym, ap, ◌∙◌, subst}
 use Rattle.lp_model.specs.declared.groups.Group.{Group}
-use Rattle.lp_model.specs.declared.fault.refusal.Refusal.{Refusal}
 use Rattle.lp_model.specs.GroupsView.{GroupView, group_view}
 use Rattle.lp_groups.specs.declared.run.Stop.{Stop}
 use Rattle.lp_groups.specs.declared.run.Stop.TheVariants as stops
 use Rattle.lp_groups.specs.Grammar.{below_64, Body}
 use Rattle.lp_groups.specs.Meaning.{groups_in}
 use Rattle.lp_groups.specs.Machine.{Reading, Whole, Stopped, Deep, Long, read_in, start}
-use Rattle.lp_groups.specs.Tokens.{Placed, tokens_of}
+use Rattle.lp_groups.specs.Tokens.{tokens_of}
 use Rattle.lp_groups.specs.Outcome.{IsStop}
 use Rattle.lp_groups.specs.Denotes as denotes
 use Rattle.lp_groups.specs.Denotes.{Denotes, bare_of, index_in, LeavesForm, HasDeepGroup, HasLongToken, RefusedAs}

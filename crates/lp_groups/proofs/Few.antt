@@ -1,5 +1,5 @@
 -- Each token makes at most one group.
-use Rattle.std.proofs.Common.{◌≡◌, ℕ, zero, suc, ◌+◌, ◌≤◌, Bool, true, false, List, [], ◌∷◌, ◌++◌, length, length-append, Option, Some, None, refl, sym, ap, ◌∙◌, subst, arith}
+use Rattle.std.proofs.Common.{◌≡◌, ℕ, zero, suc, ◌+◌, ◌≤◌, Bool, true, false, List, [], ◌∷◌, length, length-append, Option, Some, None, refl, ap, subst, arith}
 use Rattle.std.specs.Prelude.{if◌then◌else◌, nat_lt, IfSome}
 use Rattle.lp_text.specs.declared.names.NameId.{NameId}
 use Rattle.lp_text.specs.Texts.{with_text}
@@ -11,8 +11,7 @@ use Rattle.lp_groups.specs.declared.mark.Last.TheVariants as lasts
 use Rattle.lp_groups.specs.declared.mark.Mode.{Mode}
 use Rattle.lp_groups.specs.declared.mark.Mode.TheVariants as modes
 use Rattle.lp_groups.specs.Grammar.{Token, Name, Sign}
-use Rattle.lp_groups.specs.Tokens.{Placed}
-use Rattle.lp_groups.specs.Machine.{Machine, with_attr_at, with_attr_in, ended, innermost, opened_in, name_by, name_in, begin_name, mark_by, mark_in, shut_by, begin_mark, in_mode, holding, is_filled, Taken, Refused, Reading, Stopped, Deep, Long, stepped, is_deep_by, numbered_as, taken_in, step_in, step_at, Step}
+use Rattle.lp_groups.specs.Machine.{Machine, with_attr_at, with_attr_in, ended, innermost, opened_in, name_by, name_in, begin_name, mark_by, mark_in, shut_by, begin_mark, in_mode, holding, is_filled, Taken, Refused, Reading, Stopped, Deep, Long, stepped, is_deep_by, numbered_as, taken_in, step_at, Step}
 
 -- from one machine to the next
 abbrev pub OneMore : Machine → Machine → Type 0

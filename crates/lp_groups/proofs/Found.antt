@@ -16,7 +16,7 @@ use Rattle.lp_groups.specs.Grammar as grammar
 use Rattle.lp_groups.specs.Grammar.{Token, Name, Sign, Body, End, Semi, Simple, Complex, Group, spelling, is_item, is_name, are_args, are_more_args, ends_simple, is_body, Spells}
 use Rattle.lp_groups.specs.Machine.{is_filled}
 use Rattle.lp_groups.proofs.Joined.{is_open, semi_after, both, conj_left, conj_right, joined-end, spelling-joined, open-joined, semi-joined, body-joined}
-use Rattle.lp_groups.proofs.Zipper.{joined, Frame, State, at_begin, in_statement, shut, begin_mark, begin, named, args_mark, args, behind_complex, items_mark, items, behind, step_by, step, start, accepts_by, accepts}
+use Rattle.lp_groups.proofs.Zipper.{joined, Frame, State, at_begin, in_statement, shut, begin_mark, begin, named, args, behind_complex, items, behind, step_by, step, start, accepts_by, accepts}
 
 abbrev pub frames_text : List Frame → List Token
 frames_text [] = []
@@ -124,9 +124,10 @@ module _ (room : ℕ → Bool) where
   -- one statement more, which is all of the body b but for its end
   statement_good : (fs : List Frame) (d b : Body) (semi : Bool) (text : List Token) → GoodFrames fs → IsTrue (is_open d) → IsTrue (is_body room (length fs) false d)
       → IsTrue (is_body room (length fs) (semi_after false d) b) → IsTrue (is_open b) → semi ≡ semi_after (semi_after false d) b → frames_text fs ++ (spelling d ++ spelling b) ≡ text → HasRead text (at_begin fs (joined d b) semi)
-  statement_good fs d b semi text good plain body fine opens last spelled =
-      ((good, open-joined d b plain ∙ opens, body-joined room (length fs) false d b plain body fine, last ∙ sym (semi-joined false d b plain)),
-       rw (append-nil (spelling (joined d b)), spelling-joined d b plain) spelled)
+  statement_good fs d b semi text good plain body fine opens last spelled = (
+    (good, open-joined d b plain ∙ opens, body-joined room (length fs) false d b plain body fine, last ∙ sym (semi-joined false d b plain)),
+    rw (append-nil (spelling (joined d b)), spelling-joined d b plain) spelled,
+  )
 
   shut_good : (fs : List Frame) (d b : Body) (text : List Token) → GoodFrames fs → IsTrue (is_open d) → IsTrue (is_body room (length fs) false d) → IsTrue (is_body room (length fs) (semi_after false d) b)
       → frames_text fs ++ (spelling d ++ (spelling b ++ Sign marks.BraceClose ∷ [])) ≡ text → IfSome (shut fs (joined d b)) (HasRead text)
@@ -134,11 +135,11 @@ module _ (room : ℕ → Bool) where
   shut_good (f ∷ fs) d b text good plain body fine spelled =
       let inner = body-joined room (suc (length fs)) false d b plain body fine in
       let one : IsTrue (is_body room (length fs) (semi_after false f.before) (Group f.word f.args (joined d b) End)) =
-          both (room (length fs)) (are_args f.args && (is_body room (suc (length fs)) false (joined d b) && true)) good.3
-          (both (are_args f.args) (is_body room (suc (length fs)) false (joined d b) && true) good.2
-          (both (is_body room (suc (length fs)) false (joined d b)) true inner refl)) in
+      both (room (length fs)) (are_args f.args && (is_body room (suc (length fs)) false (joined d b) && true)) good.3
+      (both (are_args f.args) (is_body room (suc (length fs)) false (joined d b) && true) good.2
+      (both (is_body room (suc (length fs)) false (joined d b)) true inner refl)) in
       let first : frames_text fs ++ (spelling f.before ++ (Name false f.word ∷ (Sign marks.ParenOpen ∷ (f.args ++ (Sign marks.ParenClose ∷ (Sign marks.BraceOpen ∷ (spelling (joined d b) ++ Sign marks.BraceClose ∷ [])))))))
-          ≡ frames_text (f ∷ fs) ++ (spelling d ++ (spelling b ++ Sign marks.BraceClose ∷ [])) = rw (spelling-joined d b plain) (simp append_assoc) in
+      ≡ frames_text (f ∷ fs) ++ (spelling d ++ (spelling b ++ Sign marks.BraceClose ∷ [])) = rw (spelling-joined d b plain) (simp append_assoc) in
       statement_good fs f.before (Group f.word f.args (joined d b) End) true text good.4 good.0 good.1 one refl refl (first ∙ spelled)
 
   begin_mark_good : (fs : List Frame) (d b : Body) (semi : Bool) (k : Mark) (text : List Token) → GoodFrames fs → IsTrue (is_open d) → IsTrue (is_body room (length fs) false d) → IsTrue (is_body room (length fs) (semi_after false d) b) → IsTrue (is_open b) → semi ≡ semi_after (semi_after false d) b
@@ -146,9 +147,9 @@ module _ (room : ℕ → Bool) where
   begin_mark_good fs d b semi marks.BraceClose text good plain body fine opens last spelled = shut_good fs d b text good plain body fine spelled
   begin_mark_good fs d b semi marks.Semicolon text good plain body fine opens last spelled =
       some_if (HasRead text) semi (Some (at_begin fs (joined (joined d b) (Semi End)) false)) None (λ e.
-        statement_good fs (joined d b) (Semi End) false text good (open-joined d b plain ∙ opens) (body-joined room (length fs) false d b plain body fine)
-          (both (semi_after false (joined d b)) true (semi-joined false d b plain ∙ sym last ∙ e) refl) refl refl (rw (spelling-joined d b plain) (ap (λ ts. frames_text fs ++ ts) (append_assoc (spelling d) (spelling b) (Sign marks.Semicolon ∷ [])) ∙ spelled)))
-        (λ _. tt)
+      statement_good fs (joined d b) (Semi End) false text good (open-joined d b plain ∙ opens) (body-joined room (length fs) false d b plain body fine)
+      (both (semi_after false (joined d b)) true (semi-joined false d b plain ∙ sym last ∙ e) refl) refl refl (rw (spelling-joined d b plain) (ap (λ ts. frames_text fs ++ ts) (append_assoc (spelling d) (spelling b) (Sign marks.Semicolon ∷ [])) ∙ spelled)))
+      (λ _. tt)
   begin_mark_good fs d b semi marks.ParenOpen text good plain body fine opens last spelled = tt
   begin_mark_good fs d b semi marks.ParenClose text good plain body fine opens last spelled = tt
   begin_mark_good fs d b semi marks.BraceOpen text good plain body fine opens last spelled = tt
@@ -216,15 +217,15 @@ module _ (room : ℕ → Bool) where
       → IfSome (behind_complex fs d w held t) (HasRead ((frames_text fs ++ (spelling d ++ statement_text modes.Behind w held)) ++ t ∷ []))
   behind_complex_good fs d w held t good plain body h =
       some_if (HasRead ((frames_text fs ++ (spelling d ++ statement_text modes.Behind w held)) ++ t ∷ [])) (is_filled fs) (begin fs (joined d (Complex w held End)) true t) None
-        (λ e. begin_good fs d (Complex w held End) true t ((frames_text fs ++ (spelling d ++ statement_text modes.Behind w held)) ++ t ∷ []) good plain body
-          (both (nat_lt 0 (length fs)) (are_args held && true) (depth_filled fs e) (both (are_args held) true h refl)) refl refl (simp append_assoc))
-        (λ _. tt)
+      (λ e. begin_good fs d (Complex w held End) true t ((frames_text fs ++ (spelling d ++ statement_text modes.Behind w held)) ++ t ∷ []) good plain body
+      (both (nat_lt 0 (length fs)) (are_args held && true) (depth_filled fs e) (both (are_args held) true h refl)) refl refl (simp append_assoc))
+      (λ _. tt)
 
   behind_good : (fs : List Frame) (d : Body) (w : List ℕ) (held : List Token) (t : Token) → GoodFrames fs → IsTrue (is_open d) → IsTrue (is_body room (length fs) false d) → IsTrue (are_args held)
       → IfSome (behind room fs d w held t) (HasRead ((frames_text fs ++ (spelling d ++ statement_text modes.Behind w held)) ++ t ∷ []))
   behind_good fs d w held (Sign marks.BraceOpen) good plain body h =
       some_if (HasRead ((frames_text fs ++ (spelling d ++ statement_text modes.Behind w held)) ++ Sign marks.BraceOpen ∷ [])) (room (length fs)) (Some (at_begin (record { before = d; word = w; args = held } ∷ fs) End false)) None
-        (λ e. (((plain, body, h, e, good), refl, refl, refl), simp append_assoc)) (λ _. tt)
+      (λ e. (((plain, body, h, e, good), refl, refl, refl), simp append_assoc)) (λ _. tt)
   behind_good fs d w held (Sign marks.ParenOpen) good plain body h = behind_complex_good fs d w held (Sign marks.ParenOpen) good plain body h
   behind_good fs d w held (Sign marks.ParenClose) good plain body h = behind_complex_good fs d w held (Sign marks.ParenClose) good plain body h
   behind_good fs d w held (Sign marks.BraceClose) good plain body h = behind_complex_good fs d w held (Sign marks.BraceClose) good plain body h
@@ -243,13 +244,13 @@ module _ (room : ℕ → Bool) where
   items_good fs d w held (Sign marks.ParenClose) good plain body e h = ((good, plain, body, (e, item_more held (Sign marks.ParenClose) h refl)), grown_text fs d (Name false w ∷ (Sign marks.Colon ∷ [])) held (Sign marks.ParenClose))
   items_good fs d w held (Sign marks.Semicolon) good plain body e h =
       statement_good fs d (Simple w held marks.Semicolon End) false ((frames_text fs ++ (spelling d ++ statement_text modes.Items w held)) ++ Sign marks.Semicolon ∷ []) good plain body
-        (both (nat_lt 0 (length fs)) (list_all is_item held && true) (depth_filled fs e) (both (list_all is_item held) true h refl)) refl refl (simp append_assoc)
+      (both (nat_lt 0 (length fs)) (list_all is_item held && true) (depth_filled fs e) (both (list_all is_item held) true h refl)) refl refl (simp append_assoc)
   items_good fs d w held (Sign marks.LineEnd) good plain body e h =
       statement_good fs d (Simple w held marks.LineEnd End) false ((frames_text fs ++ (spelling d ++ statement_text modes.Items w held)) ++ Sign marks.LineEnd ∷ []) good plain body
-        (both (nat_lt 0 (length fs)) (list_all is_item held && true) (depth_filled fs e) (both (list_all is_item held) true h refl)) refl refl (simp append_assoc)
+      (both (nat_lt 0 (length fs)) (list_all is_item held && true) (depth_filled fs e) (both (list_all is_item held) true h refl)) refl refl (simp append_assoc)
   items_good fs d w held (Sign marks.BraceClose) good plain body e h =
       shut_good fs d (grammar.Last w held) ((frames_text fs ++ (spelling d ++ statement_text modes.Items w held)) ++ Sign marks.BraceClose ∷ []) good plain body
-        (both (nat_lt 0 (length fs)) (list_all is_item held) (depth_filled fs e) h) (simp append_assoc)
+      (both (nat_lt 0 (length fs)) (list_all is_item held) (depth_filled fs e) h) (simp append_assoc)
   items_good fs d w held (Sign marks.BraceOpen) good plain body e h = tt
   items_good fs d w held (Sign marks.Colon) good plain body e h = tt
   items_good fs d w held (Sign marks.Broken) good plain body e h = tt
@@ -258,7 +259,7 @@ module _ (room : ℕ → Bool) where
       → IfSome (step_by room fs d mode w held t) (HasRead ((frames_text fs ++ (spelling d ++ statement_text mode w held)) ++ t ∷ []))
   step_good_by fs d (modes.Begin semi) w held t good plain body h =
       let same : IfSome (begin fs (joined d End) semi t) (HasRead ((frames_text fs ++ (spelling d ++ [])) ++ t ∷ [])) =
-          begin_good fs d End semi t ((frames_text fs ++ (spelling d ++ [])) ++ t ∷ []) good plain body refl refl h (simp (append_assoc, append-nil)) in
+      begin_good fs d End semi t ((frames_text fs ++ (spelling d ++ [])) ++ t ∷ []) good plain body refl refl h (simp (append_assoc, append-nil)) in
       subst (λ (b : Body). IfSome (begin fs b semi t) (HasRead ((frames_text fs ++ (spelling d ++ [])) ++ t ∷ []))) (joined-end d) same
   step_good_by fs d modes.Named w held t good plain body h = named_good fs d w t good plain body
   step_good_by fs d (modes.Args l) w held t good plain body h = args_good fs d l w held t good plain body h
@@ -299,6 +300,8 @@ module _ (room : ℕ → Bool) where
   spells text z e a =
       let h = reads text z e in
       let top = accepted_good z.mode z.frames a in
-      record { body = z.done;
-               good = subst (λ (fs : List Frame). IsTrue (is_body room (length fs) false z.done)) top.0 h.0.2;
-               spelled = sym h.1 ∙ ap (λ (fs : List Frame). frames_text fs ++ (spelling z.done ++ statement_text z.mode z.word z.held)) top.0 ∙ ap (λ (m : Mode). spelling z.done ++ statement_text m z.word z.held) top.1.1 ∙ append-nil (spelling z.done) }
+      record {
+        body = z.done;
+        good = subst (λ (fs : List Frame). IsTrue (is_body room (length fs) false z.done)) top.0 h.0.2;
+        spelled = sym h.1 ∙ ap (λ (fs : List Frame). frames_text fs ++ (spelling z.done ++ statement_text z.mode z.word z.held)) top.0 ∙ ap (λ (m : Mode). spelling z.done ++ statement_text m z.word z.held) top.1.1 ∙ append-nil (spelling z.done);
+      }

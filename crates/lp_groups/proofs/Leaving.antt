@@ -1,6 +1,6 @@
 -- The machine reads each text of the form, can always be led to its end, and stops where no text of the form goes on.
-use Rattle.std.proofs.Common.{◌≡◌, ℕ, suc, ◌<◌, ◌≤◌, Bool, true, false, List, [], ◌∷◌, ◌++◌, ◌&&◌, length, take, drop, Option, Some, None, refl, sym, ap, ◌∙◌, subst, arith, append_assoc}
-use Rattle.std.specs.Prelude.{if◌then◌else◌, nat_lt, IsTrue, option_and_then}
+use Rattle.std.proofs.Common.{◌≡◌, ℕ, suc, ◌<◌, ◌≤◌, Bool, true, false, List, [], ◌∷◌, ◌++◌, ◌&&◌, length, take, drop, Option, Some, refl, sym, ap, ◌∙◌, arith, append_assoc}
+use Rattle.std.specs.Prelude.{nat_lt, IsTrue, option_and_then}
 use Rattle.std.specs.List.{list_all}
 use Rattle.std.proofs.lemmas.List.{append-nil}
 use Rattle.std.proofs.lemmas.Bool.{true≢false, ltb-true}
@@ -15,8 +15,8 @@ use Rattle.lp_groups.specs.declared.mark.Mode.TheVariants as modes
 use Rattle.lp_groups.specs.Grammar as grammar
 use Rattle.lp_groups.specs.Grammar.{Token, Name, Sign, Body, End, Semi, Simple, Complex, Group, spelling, is_item, is_name, are_args, are_more_args, ends_simple, is_body, Spells}
 use Rattle.lp_groups.specs.Machine.{is_filled}
-use Rattle.lp_groups.proofs.Joined.{is_open, semi_after, both, conj_left, conj_right, joined-end, joined-assoc}
-use Rattle.lp_groups.proofs.Zipper.{joined, Frame, State, at_begin, in_statement, shut, begin_mark, begin, named, args_mark, args, behind_complex, items_mark, items, behind, step_by, step, start, accepts_by, accepts}
+use Rattle.lp_groups.proofs.Joined.{semi_after, conj_left, conj_right, joined-end, joined-assoc}
+use Rattle.lp_groups.proofs.Zipper.{joined, Frame, State, at_begin, in_statement, shut, args, items, step, start, accepts}
 use Rattle.lp_groups.proofs.Found.{Good, spells, step_good, start_good, from_some, HasRead, GoodStatement, state_text, reads}
 
 pub no_depth : (A : Type 0) → IsTrue (nat_lt 0 0) → A
@@ -25,7 +25,6 @@ no_depth A h = absurd (let low : 0 < 0 = ltb-true 0 0 h in omega arith)
 depth_frames : (fs : List Frame) → IsTrue (nat_lt 0 (length fs)) → IsTrue (is_filled fs)
 depth_frames [] h = no_depth (IsTrue (is_filled {A = Frame} [])) h
 depth_frames (f ∷ fs) h = refl
-
 
 module _ (room : ℕ → Bool) where
   abbrev run : State → List Token → Option State
@@ -235,14 +234,14 @@ module _ (room : ℕ → Bool) where
   pub recognizes : Recognizes (step room) accepts start (Spells room)
   recognizes = record {
     found = λ text z taken accepted. spells room text z taken accepted;
-    again = λ text h. (at_begin [] h.body (semi_after false h.body), again text h, refl)
+    again = λ text h. (at_begin [] h.body (semi_after false h.body), again text h, refl);
   }
 
   pub finishes : (room 0 ≡ true) → Finishes (step room) accepts start (Good room)
   finishes r = record {
     begins = start_good room;
     keeps = λ z t u g e. (from_some (HasRead room (state_text z ++ t ∷ [])) (step room z t) u (step_good room z t g) e).0;
-    ends = λ z g. let e = ends_by r z.frames z.done z.mode z.word z.held g.3 in (e.0, e.1.last_state, e.1.taken, e.1.accepted)
+    ends = λ z g. let e = ends_by r z.frames z.done z.mode z.word z.held g.3 in (e.0, e.1.last_state, e.1.taken, e.1.accepted);
   }
 
   -- where the machine stops, the text leaves the form

@@ -1,16 +1,12 @@
 -- What the list machine answers is what the text denotes, or where it is refused.
-use Rattle.std.proofs.Common.{◌≡◌, ℕ, zero, suc, ◌+◌, ◌-◌, ◌<◌, ◌≤◌, Bool, true, false, List, [], ◌∷◌, ◌++◌, length, take, drop, drop-drop, Option, Some, None, ◌&&◌, refl, sym, ap, ◌∙◌, subst, arith, append_assoc}
+use Rattle.std.proofs.Common.{◌≡◌, ℕ, zero, suc, ◌+◌, ◌-◌, ◌<◌, ◌≤◌, Bool, true, false, List, [], ◌∷◌, ◌++◌, length, take, drop, drop-drop, Option, Some, None, refl, sym, ap, ◌∙◌, subst, arith, append_assoc}
 use Rattle.std.specs.Prelude.{if◌then◌else◌, nat_le, nat_lt, IsTrue, map, option_and_then, unwrap_or, is_some}
-use Rattle.std.specs.List.{list_all}
-use Rattle.std.proofs.lemmas.List.{append-nil, length-map, length-drop, length-take-le, take-append-drop, map-append}
+use Rattle.std.proofs.lemmas.List.{append-nil, length-map, length-drop, length-take-le, take-append-drop}
 use Rattle.std.proofs.lemmas.Bool.{true≢false, ltb-true, ltb-false, le-leb}
 use Rattle.std.proofs.lemmas.List.Folds.{list_all-append}
-use Rattle.lp_place.specs.Leaving.{Leaves}
 use Rattle.lp_place.specs.Machines.{steps, steps-append, Stops}
 use Rattle.lp_text.specs.Texts.{with_text, place_of, text_at, Grown, Grown-with_text, Grown-refl, Grown-trans, Grown-KeepsNumbers, place_of-Some, has_text, is_some-place_of, place_of-push}
-use Rattle.lp_model.specs.declared.groups.Group.{Group}
-use Rattle.lp_model.specs.GroupsView.{GroupView, group_view}
-use Rattle.lp_groups.specs.declared.mark.Mark.{Mark}
+use Rattle.lp_model.specs.GroupsView.{group_view}
 use Rattle.lp_groups.specs.declared.mark.Mark.TheVariants as marks
 use Rattle.lp_groups.specs.declared.mark.Mode.{Mode}
 use Rattle.lp_groups.specs.declared.mark.Mode.TheVariants as modes
@@ -20,14 +16,14 @@ use Rattle.lp_groups.specs.Meaning.{groups_in}
 use Rattle.lp_groups.specs.Tokens.{Placed, tokens_of}
 use Rattle.lp_groups.specs.Machine as machine
 use Rattle.lp_groups.specs.Machine.{Machine, Reading, Whole, Stopped, Deep, Long, is_deep_by, is_done_by, name_in, mark_in, numbered_as, stepped, taken_in, step_in, read_on, read_in}
-use Rattle.lp_groups.specs.Denotes.{bare, bare_of, are_short, index_in, KeepsLimits, LeavesForm, HasLongToken, HasDeepGroup}
+use Rattle.lp_groups.specs.Denotes.{bare, are_short, index_in, KeepsLimits, LeavesForm, HasLongToken, HasDeepGroup}
 use Rattle.lp_groups.proofs.Zipper as zip
 use Rattle.lp_groups.proofs.Zipper.{Frame, State, step, accepts_by, accepts}
 use Rattle.lp_groups.proofs.Found.{statement_text, Good, GoodFrames, GoodStatement, HasRead, reads, spells, frames_text, state_text, accepted_good}
 use Rattle.lp_groups.proofs.Leaving.{leaves_at, goes_on}
 use Rattle.lp_groups.proofs.Shown.{AllOpen, shown, numbers}
 use Rattle.lp_groups.proofs.Simulation.{Both, Shows, ShowsStatement, Inside, name_same, mark_same}
-use Rattle.lp_groups.proofs.Always.{always_some, always_none, no_name, deep_is, always_steps}
+use Rattle.lp_groups.proofs.Always.{always_none, no_name, deep_is, always_steps}
 
 -- ---- lists
 
@@ -146,7 +142,7 @@ module _ (text : List ℕ) where
     before = keeps k z a;
     short = short;
     leaves = leaves_at always refl bares k z (within_bares k a.within) (unlimited k z a) stop;
-    is = is
+    is = is;
   }
 
   -- the end of the text
@@ -195,7 +191,7 @@ module _ (text : List ℕ) where
       taken_more u e = record {
         within = within_more k all t rest here;
         taken = ap (steps (step below_64) zip.start) (take_one k bares t.token (bare rest) here_bare) ∙ steps-append (step below_64) zip.start (take k bares) (t.token ∷ []) ∙ ap (λ o. option_and_then (λ w. steps (step below_64) w (t.token ∷ [])) o) a.taken ∙ ap (λ o. option_and_then (λ w. Some w) o) e;
-        short = short_more
+        short = short_more;
       }
 
       off_here : step always z t.token ≡ None → LeavesForm text t.at
@@ -214,7 +210,7 @@ module _ (text : List ℕ) where
           let opened : step always z t.token ≡ Some u = ap (step always z) brace ∙ ap (λ (x : Mode). zip.step_by always z.frames z.done x z.word z.held (Sign marks.BraceOpen)) mode in
           let more = take_one k bares t.token (bare rest) here_bare in
           let run : steps (step always) zip.start (take (suc k) bares) ≡ Some u =
-              ap (steps (step always) zip.start) more ∙ steps-append (step always) zip.start (take k bares) (t.token ∷ []) ∙ ap (λ o. option_and_then (λ v. steps (step always) v (t.token ∷ [])) o) (unlimited k z a) ∙ ap (λ o. option_and_then (λ v. Some v) o) opened in
+          ap (steps (step always) zip.start) more ∙ steps-append (step always) zip.start (take k bares) (t.token ∷ []) ∙ ap (λ o. option_and_then (λ v. steps (step always) v (t.token ∷ [])) o) (unlimited k z a) ∙ ap (λ o. option_and_then (λ v. Some v) o) opened in
           record {
             number = k;
             before = keeps k z a;
@@ -227,7 +223,7 @@ module _ (text : List ℕ) where
             brace = more ∙ ap (λ x. take k bares ++ x ∷ []) brace;
             goes_on = goes_on always refl (take (suc k) bares) u run;
             leaves = leaves_at below_64 refl bares k z (within_bares k a.within) a.taken (subst (Stops (step below_64) accepts z) (sym here_bare) e);
-            is = is
+            is = is;
           }
 
   -- from a token on
@@ -257,19 +253,19 @@ module _ (text : List ℕ) where
       let id = numbered_as new w in
       let g = next k z a t rest here in
       let agree : BothFor place new (step below_64 z (Name quoted w)) (name_in quoted id t.at m) = λ final grown.
-          let s = both final (Grown-trans (Grown-with_text names w) grown) in
-          subst (λ (x : Mode). Both (Shows final place) (step below_64 z (Name quoted w)) (machine.name_by x quoted id t.at m)) (sym s.mode)
-            (name_same final place z.frames z.done z.mode z.word z.held quoted w id t.at m (all_open below_64 z.frames g.0.0) g.0.1 (number_text names w final grown) g.1 s.same s.statement) in
+      let s = both final (Grown-trans (Grown-with_text names w) grown) in
+      subst (λ (x : Mode). Both (Shows final place) (step below_64 z (Name quoted w)) (machine.name_by x quoted id t.at m)) (sym s.mode)
+      (name_same final place z.frames z.done z.mode z.word z.held quoted w id t.at m (all_open below_64 z.frames g.0.0) g.0.1 (number_text names w final grown) g.1 s.same s.statement) in
       go_on k z new (Stopped t.at) t rest more (behind_one k t rest here) (step below_64 z (Name quoted w)) (ap (step below_64 z) is) (name_in quoted id t.at m) agree (taken_more k z a t rest here short)
-        (λ e. off_here k z a t rest here short (ap (step always z) is ∙ no_name z quoted w (ap (step below_64 z) (sym is) ∙ e)))
+      (λ e. off_here k z a t rest here short (ap (step always z) is ∙ no_name z quoted w (ap (step below_64 z) (sym is) ∙ e)))
   one_token k z names m a t rest here short both more (Sign mark) is =
       let g = next k z a t rest here in
       let agree : BothFor place names (step below_64 z (Sign mark)) (mark_in mark m) = λ final grown.
-          let s = both final grown in
-          subst (λ (x : Mode). Both (Shows final place) (step below_64 z (Sign mark)) (machine.mark_by x mark m)) (sym s.mode)
-            (mark_same final place z.frames z.done z.mode z.word z.held mark m (all_open below_64 z.frames g.0.0) g.0.1 (inside_good z.mode z.frames z.done z.held g.0.3) s.same s.mode s.statement) in
+      let s = both final grown in
+      subst (λ (x : Mode). Both (Shows final place) (step below_64 z (Sign mark)) (machine.mark_by x mark m)) (sym s.mode)
+      (mark_same final place z.frames z.done z.mode z.word z.held mark m (all_open below_64 z.frames g.0.0) g.0.1 (inside_good z.mode z.frames z.done z.held g.0.3) s.same s.mode s.statement) in
       go_on k z names (if is_deep_by m.mode mark then Deep m.head else Stopped t.at) t rest more (behind_one k t rest here) (step below_64 z (Sign mark)) (ap (step below_64 z) is) (mark_in mark m) agree (taken_more k z a t rest here short)
-        (λ e. stop e (both names (Grown-refl names)) (is_deep_by m.mode mark) refl)
+      (λ e. stop e (both names (Grown-refl names)) (is_deep_by m.mode mark) refl)
     where
       stop : step below_64 z t.token ≡ None → Shows names place z m → (c : Bool) → is_deep_by m.mode mark ≡ c → Answers (if c then Deep m.head else Stopped t.at)
       stop e s true deep =
@@ -282,8 +278,8 @@ module _ (text : List ℕ) where
   reading [] k z names m a e both = at_end k z names m a e both
   reading (t ∷ rest) k z names m a e both =
       by_size (nat_lt 1048576 t.size) t rest (taken_in names m t.at t.token) (λ h. long_here k z a t rest e (ltb-true 1048576 t.size h))
-        (λ h. one_token k z names m a t rest e (ltb-false 1048576 t.size h) both (reading rest) t.token refl)
+      (λ h. one_token k z names m a t rest e (ltb-false 1048576 t.size h) both (reading rest) t.token refl)
 
   pub reading_answers : (names : List (List ℕ)) → Answers (read_in (length text) names machine.start all)
   reading_answers names = reading all 0 zip.start names machine.start (record { within = omega arith; taken = refl; short = refl }) refl
-    (λ final grown. record { mode = refl; same = record { groups = refl; opened = refl }; statement = tt })
+      (λ final grown. record { mode = refl; same = record { groups = refl; opened = refl }; statement = tt })

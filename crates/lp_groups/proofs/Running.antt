@@ -1,7 +1,6 @@
 -- Reading goes on behind a token as the text does.
-use Rattle.std.proofs.Common.{◌≡◌, ℕ, zero, suc, ◌+◌, ◌-◌, Bool, true, false, List, [], ◌∷◌, ◌++◌, length, drop, Option, Some, None, refl, sym, ap, ◌∙◌, subst, arith}
+use Rattle.std.proofs.Common.{◌≡◌, ℕ, suc, ◌+◌, Bool, true, false, List, [], ◌∷◌, length, drop, Option, Some, None, refl, sym, ap, ◌∙◌, subst}
 use Rattle.std.specs.Prelude.{if◌then◌else◌, nat_lt, IfSome}
-use Rattle.std.proofs.lemmas.Bool.{true≢false}
 use Rattle.lp_text.specs.declared.names.NameId.{NameId}
 use Rattle.lp_text.specs.Texts.{with_text}
 use Rattle.lp_groups.specs.declared.mark.Mark.{Mark}
@@ -20,7 +19,7 @@ use Rattle.lp_groups.specs.Outcome.{IsStop, RefusedBy}
 use Rattle.lp_groups.specs.Grammar.{Token, Name, Sign}
 use Rattle.lp_groups.specs.Lexing.{name_of, lexed_at}
 use Rattle.lp_groups.specs.Tokens.{Placed, between, behind, placed, listed, token_of, tokens_from}
-use Rattle.lp_groups.specs.Machine.{Machine, context_of, ended, name_by, name_in, mark_by, mark_in, shut_by, shut_in, begin_mark, is_filled, opened_in, Step, Taken, Refused, Reading, Stopped, Deep, Long, stepped, is_deep_by, numbered_as, taken_in, step_in, step_at, read_on, read_in, finished}
+use Rattle.lp_groups.specs.Machine.{Machine, context_of, ended, name_by, name_in, mark_by, mark_in, shut_by, begin_mark, is_filled, opened_in, Taken, Refused, Reading, Stopped, Deep, Long, stepped, is_deep_by, numbered_as, taken_in, step_in, step_at, read_on, read_in, finished}
 
 -- where the machine goes on, the next token has the form that it has behind this one
 abbrev pub Follows : Mode → Token → Machine → Type 0

@@ -1,10 +1,9 @@
 -- The groups that a state of the machine shows.
-use Rattle.std.proofs.Common.{◌≡◌, ℕ, zero, suc, ◌+◌, Bool, true, false, List, [], ◌∷◌, ◌++◌, length, length-append, Option, Some, None, refl, sym, ap, ◌∙◌, subst, arith, append_assoc, add-zero, zero-add}
-use Rattle.std.specs.Prelude.{IsTrue, map}
+use Rattle.std.proofs.Common.{◌≡◌, ℕ, zero, suc, ◌+◌, true, false, List, [], ◌∷◌, ◌++◌, length, length-append, Option, Some, None, refl, sym, ap, ◌∙◌, arith, append_assoc, add-zero, zero-add}
+use Rattle.std.specs.Prelude.{IsTrue}
 use Rattle.std.proofs.lemmas.List.{append-nil}
 use Rattle.std.proofs.lemmas.Bool.{true≢false}
 use Rattle.lp_model.specs.GroupsView.{AttrView, GroupView}
-use Rattle.lp_groups.specs.declared.mark.Mark.TheVariants as marks
 use Rattle.lp_groups.specs.Grammar as grammar
 use Rattle.lp_groups.specs.Grammar.{Token, Name, Sign, Body, End, Semi, Simple, Complex, Group}
 use Rattle.lp_groups.specs.Meaning.{attribute, attributes, count, header, groups_in}

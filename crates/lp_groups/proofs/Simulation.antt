@@ -1,5 +1,5 @@
 -- The reader moves as the machine that holds statements does.
-use Rattle.std.proofs.Common.{◌≡◌, ℕ, zero, suc, ◌+◌, Bool, true, false, List, [], ◌∷◌, ◌++◌, length, length-append, Option, Some, None, refl, sym, ap, ◌∙◌, subst, arith, append_assoc}
+use Rattle.std.proofs.Common.{◌≡◌, ℕ, zero, suc, ◌+◌, Bool, true, false, List, [], ◌∷◌, ◌++◌, length, Option, Some, None, refl, sym, ap, ◌∙◌, subst}
 use Rattle.std.specs.Prelude.{if◌then◌else◌, nat_lt, IsTrue, map}
 use Rattle.std.proofs.lemmas.List.{append-nil, map-append, length-map}
 use Rattle.std.proofs.lemmas.Bool.{true≢false}
@@ -8,7 +8,7 @@ use Rattle.lp_text.specs.Texts.{text_at}
 use Rattle.lp_model.specs.Agreement.{name_texts}
 use Rattle.lp_model.specs.declared.groups.Attr.{Attr}
 use Rattle.lp_model.specs.declared.groups.Group as group
-use Rattle.lp_model.specs.GroupsView.{AttrView, GroupView, attr_view, group_view}
+use Rattle.lp_model.specs.GroupsView.{attr_view, group_view}
 use Rattle.lp_groups.specs.declared.mark.Mark.{Mark}
 use Rattle.lp_groups.specs.declared.mark.Mark.TheVariants as marks
 use Rattle.lp_groups.specs.declared.mark.Last as last
@@ -24,7 +24,7 @@ use Rattle.lp_groups.proofs.Joined.{is_open, open-joined, spelling-joined}
 use Rattle.lp_groups.proofs.Zipper as zip
 use Rattle.lp_groups.proofs.Zipper.{joined, Frame, State, at_begin, in_statement, shut, begin, named, args, behind_complex, items, behind, step_by, step}
 use Rattle.lp_groups.proofs.Found.{frames_text, state_text, statement_text}
-use Rattle.lp_groups.proofs.Shown.{plug, shown, base, own, numbers, AllOpen, shown_inner, shown_more, length_shown, attr_in, attr_at, shown_attr}
+use Rattle.lp_groups.proofs.Shown.{shown, base, own, numbers, AllOpen, shown_inner, shown_more, length_shown, attr_at, shown_attr}
 
 pub filled_numbers : (fs : List Frame) → is_filled (numbers fs) ≡ is_filled fs
 filled_numbers [] = refl
@@ -107,7 +107,7 @@ module _ (final : List (List ℕ)) (place : ℕ → ℕ) where
       let k = base fs + count f.before in
       record {
         groups = ap (λ ns. map (group_view final) (with_attr_in ns m.groups a)) s.opened ∙ map_attr_at m.groups k a ∙ ap (λ gs. attr_at gs k (attr_view final a)) s.groups ∙ ap (λ v. attr_at (shown (f ∷ fs) d) k v) view ∙ sym (shown_attr f fs d x (attribute complex w held) o h one none);
-        opened = s.opened
+        opened = s.opened;
       }
 
   shut_same : (fs : List Frame) (d : Body) (m : Machine) → Same fs d m → Both Shows (shut fs d) (shut_in m)
@@ -123,17 +123,17 @@ module _ (final : List (List ℕ)) (place : ℕ → ℕ) where
       let f : Frame = record { before = d; word = w; args = held } in
       let g : group.Group = record { word = m.word; args = m.held; parent = innermost m.opened; attrs = [] } in
       let view : group_view final g ≡ header (own fs) w held [] =
-          ap (λ v. record { word = v; args = name_texts final m.held; parent = innermost m.opened; attrs = [] }) word
-          ∙ ap (λ ns. record { word = w; args = ns; parent = innermost m.opened; attrs = [] }) names
-          ∙ ap (λ p. record { word = w; args = names_in held; parent = p; attrs = [] }) (ap innermost s.opened ∙ innermost_numbers fs) in
+      ap (λ v. record { word = v; args = name_texts final m.held; parent = innermost m.opened; attrs = [] }) word
+      ∙ ap (λ ns. record { word = w; args = ns; parent = innermost m.opened; attrs = [] }) names
+      ∙ ap (λ p. record { word = w; args = names_in held; parent = p; attrs = [] }) (ap innermost s.opened ∙ innermost_numbers fs) in
       let count_groups : length (map (group_view final) m.groups) ≡ base fs + count d = ap length s.groups ∙ length_shown fs d o in
       record {
         mode = refl;
         same = record {
           groups = map-append (group_view final) m.groups (g ∷ []) ∙ ap (λ gs. gs ++ group_view final g ∷ []) s.groups ∙ ap (λ v. shown fs d ++ v ∷ []) view ∙ sym (shown_inner f fs End (h, o));
-          opened = ap (λ n. n ∷ m.opened) (sym (length-map m.groups (group_view final)) ∙ count_groups) ∙ ap (λ ns. (base fs + count d) ∷ ns) s.opened
+          opened = ap (λ n. n ∷ m.opened) (sym (length-map m.groups (group_view final)) ∙ count_groups) ∙ ap (λ ns. (base fs + count d) ∷ ns) s.opened;
         };
-        statement = tt
+        statement = tt;
       }
 
   -- ---- a name
@@ -161,7 +161,7 @@ module _ (final : List (List ℕ)) (place : ℕ → ℕ) where
   name_same [] d modes.Behind v held quoted w id at m o h e p s t = subst (λ (ns : List ℕ). Both Shows (behind_complex [] d v held (Name quoted w)) (if is_filled ns then begin_name quoted id at (ended true true m) else None)) (sym s.opened) tt
   name_same (f ∷ fs) d modes.Behind v held quoted w id at m o h e p s t = subst (λ (ns : List ℕ). Both Shows (behind_complex (f ∷ fs) d v held (Name quoted w)) (if is_filled ns then begin_name quoted id at (ended true true m) else None)) (sym s.opened)
       (begin_name_same (f ∷ fs) (joined d (Complex v held End)) true quoted w id at (ended true true m) e (p ∙ ap (λ ts. place (length ts)) (behind_text (f ∷ fs) d v held h))
-        (same_ended f fs d (Complex v held End) true true v held m o h refl (λ p n. refl) t.0 t.2 s))
+      (same_ended f fs d (Complex v held End) true true v held m o h refl (λ p n. refl) t.0 t.2 s))
 
   -- ---- a mark
 
@@ -169,7 +169,7 @@ module _ (final : List (List ℕ)) (place : ℕ → ℕ) where
   begin_mark_same fs d semi marks.BraceClose m o h s = shut_same fs d m s
   begin_mark_same fs d semi marks.Semicolon m o h s =
       both_if Shows semi semi (Some (at_begin fs (joined d (Semi End)) false)) None (Some (in_mode (modes.Begin false) m)) None refl
-        (λ e. record { mode = refl; same = record { groups = s.groups ∙ semi_shown fs d o h; opened = s.opened }; statement = tt }) (λ e. tt)
+      (λ e. record { mode = refl; same = record { groups = s.groups ∙ semi_shown fs d o h; opened = s.opened }; statement = tt }) (λ e. tt)
   begin_mark_same fs d semi marks.ParenOpen m o h s = tt
   begin_mark_same fs d semi marks.ParenClose m o h s = tt
   begin_mark_same fs d semi marks.BraceOpen m o h s = tt
@@ -182,7 +182,7 @@ module _ (final : List (List ℕ)) (place : ℕ → ℕ) where
   named_same fs d w marks.ParenOpen m e p s = record { mode = refl; same = record { groups = s.groups; opened = s.opened }; statement = (e, p, refl) }
   named_same fs d w marks.Colon m e p s =
       both_if Shows (is_filled fs) (is_filled m.opened) (Some (in_statement fs d modes.Items w [])) None (Some (holding modes.Items [] m)) None (ap is_filled s.opened ∙ filled_numbers fs)
-        (λ c. record { mode = refl; same = record { groups = s.groups; opened = s.opened }; statement = (e, refl) }) (λ c. tt)
+      (λ c. record { mode = refl; same = record { groups = s.groups; opened = s.opened }; statement = (e, refl) }) (λ c. tt)
   named_same fs d w marks.ParenClose m e p s = tt
   named_same fs d w marks.BraceOpen m e p s = tt
   named_same fs d w marks.BraceClose m e p s = tt
@@ -233,7 +233,7 @@ module _ (final : List (List ℕ)) (place : ℕ → ℕ) where
       → Both Shows (behind below_64 fs d w held (Sign k)) (behind_mark k m)
   behind_same fs d w held marks.BraceOpen m o h e n s =
       both_if Shows (nat_lt (length fs) 64) (nat_lt (length m.opened) 64) (Some (at_begin (record { before = d; word = w; args = held } ∷ fs) End false)) None (Some (opened_in m)) None
-        (ap (λ ns. nat_lt (length ns) 64) s.opened ∙ ap (λ k. nat_lt k 64) (length_numbers fs)) (λ c. opened_same fs d w held m o h e n s) (λ c. tt)
+      (ap (λ ns. nat_lt (length ns) 64) s.opened ∙ ap (λ k. nat_lt k 64) (length_numbers fs)) (λ c. opened_same fs d w held m o h e n s) (λ c. tt)
   behind_same fs d w held marks.ParenOpen m o h e n s = complex_same fs d w held marks.ParenOpen m o h e n s
   behind_same fs d w held marks.ParenClose m o h e n s = complex_same fs d w held marks.ParenClose m o h e n s
   behind_same fs d w held marks.BraceClose m o h e n s = complex_same fs d w held marks.BraceClose m o h e n s

@@ -1,9 +1,7 @@
 -- Tokens begin and end within their text.
-use Rattle.std.proofs.Common.{◌≡◌, ℕ, zero, suc, ◌+◌, ◌-◌, ◌<◌, ◌≤◌, ◌==◌, ◌&&◌, Bool, true, false, not, List, [], ◌∷◌, ◌++◌, length, drop, take, Option, Some, None, refl, sym, ap, ◌∙◌, subst, arith, length-drop}
-use Rattle.std.specs.Prelude.{if◌then◌else◌, map}
-use Rattle.lp_groups.specs.declared.mark.Mark.{Mark}
+use Rattle.std.proofs.Common.{◌≡◌, ℕ, zero, suc, ◌+◌, ◌<◌, ◌≤◌, ◌==◌, ◌&&◌, Bool, true, false, not, List, [], ◌∷◌, length, drop, Option, Some, None, arith, length-drop}
+use Rattle.std.specs.Prelude.{if◌then◌else◌}
 use Rattle.lp_groups.specs.declared.mark.Mark.TheVariants as marks
-use Rattle.lp_groups.specs.declared.mark.Sort.{Sort}
 use Rattle.lp_groups.specs.declared.mark.Sort.TheVariants as sorts
 use Rattle.lp_groups.specs.declared.mark.Context.{Context}
 use Rattle.lp_groups.specs.declared.mark.Context.TheVariants as contexts
@@ -11,7 +9,7 @@ use Rattle.lp_groups.specs.declared.mark.Gap.{Gap}
 use Rattle.lp_groups.specs.declared.gap.Skipped.{Skipped}
 use Rattle.lp_groups.specs.declared.lexed.Lexed.{Lexed}
 use Rattle.lp_groups.specs.Grammar.{Token}
-use Rattle.lp_groups.specs.Lexing.{gap_start, gap_step, skip_on, skip, goes_on, word_end, string_end, string_size, word_at, quoted_at, beginning, behind_gap, lexed_at, is_items, is_args, is_word, is_glued, mark_of}
+use Rattle.lp_groups.specs.Lexing.{gap_start, gap_step, skip_on, skip, goes_on, word_end, string_end, string_size, word_at, quoted_at, beginning, behind_gap, lexed_at, is_items, is_args, is_word, mark_of}
 use Rattle.lp_groups.specs.Tokens.{Placed, behind, placed, listed, token_of, tokens_from, tokens_of}
 use Rattle.lp_groups.specs.Denotes.{index_in}
 
@@ -98,7 +96,7 @@ tokens_within (suc k) c at end text h = by (token_of text (lexed_at c text) (lex
     begins = let i = inside in omega arith
 
     by : (o : Option Token) → ((x : Token) → AllWithin end (tokens_from k (behind c x) (at + ((lexed_at c text).start + (lexed_at c text).size)) (drop ((lexed_at c text).start + (lexed_at c text).size) text)))
-      → AllWithin end (listed (λ x. placed at (lexed_at c text) x ∷ tokens_from k (behind c x) (at + ((lexed_at c text).start + (lexed_at c text).size)) (drop ((lexed_at c text).start + (lexed_at c text).size) text)) o)
+        → AllWithin end (listed (λ x. placed at (lexed_at c text) x ∷ tokens_from k (behind c x) (at + ((lexed_at c text).start + (lexed_at c text).size)) (drop ((lexed_at c text).start + (lexed_at c text).size) text)) o)
     by None more = tt
     by (Some x) more = (begins, more x)
 

@@ -1,5 +1,5 @@
 -- A machine that reads tokens and holds the statements that it has read.
-use Rattle.std.proofs.Common.{◌≡◌, ℕ, suc, Bool, true, false, List, [], ◌∷◌, ◌++◌, length, Option, Some, None}
+use Rattle.std.proofs.Common.{ℕ, Bool, true, false, List, [], ◌∷◌, ◌++◌, length, Option, Some, None}
 use Rattle.std.specs.Prelude.{if◌then◌else◌}
 use Rattle.lp_groups.specs.declared.mark.Mark.{Mark}
 use Rattle.lp_groups.specs.declared.mark.Mark.TheVariants as marks

@@ -1,5 +1,5 @@
 -- What a Liberty text denotes, and where it is refused (own rule).
-use Rattle.std.specs.Prelude.{◌≡◌, ℕ, zero, suc, ◌<◌, ◌≤◌, Bool, false, nat_le, IsTrue, List, [], ◌∷◌, ◌++◌, length, map, take, drop, Option, None}
+use Rattle.std.specs.Prelude.{◌≡◌, ℕ, zero, suc, ◌<◌, ◌≤◌, Bool, false, nat_le, IsTrue, List, [], ◌∷◌, ◌++◌, length, map, take, drop, None}
 use Rattle.std.specs.List.{list_all}
 use Rattle.lp_place.specs.Leaving.{Leaves}
 use Rattle.lp_text.specs.Places.{place_in}

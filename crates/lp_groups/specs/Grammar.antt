@@ -1,5 +1,5 @@
 -- The Liberty texts that are taken, as tokens (own rule).
-use Rattle.std.specs.Prelude.{◌≡◌, ℕ, suc, ◌+◌, ◌==◌, Bool, true, false, ◌&&◌, nat_lt, List, [], ◌∷◌, ◌++◌, IsTrue}
+use Rattle.std.specs.Prelude.{◌≡◌, ℕ, suc, Bool, true, false, ◌&&◌, nat_lt, List, [], ◌∷◌, ◌++◌, IsTrue}
 use Rattle.std.specs.List.{list_all}
 use Rattle.lp_groups.specs.declared.mark.Mark.{Mark}
 use Rattle.lp_groups.specs.declared.mark.Mark.TheVariants as marks

@@ -1,5 +1,5 @@
 -- The list machine that the reader is: numbers for names, and the groups so far.
-use Rattle.std.specs.Prelude.{ℕ, zero, suc, ◌+◌, ◌==◌, Bool, true, false, not, ◌&&◌, nat_lt, List, [], ◌∷◌, ◌++◌, length, take, drop, ◌-◌, Option, Some, None, if◌then◌else◌, unwrap_or}
+use Rattle.std.specs.Prelude.{ℕ, zero, suc, Bool, true, false, nat_lt, List, [], ◌∷◌, ◌++◌, length, Option, Some, None, if◌then◌else◌, unwrap_or}
 use Rattle.lp_text.specs.declared.names.NameId.{NameId}
 use Rattle.lp_text.specs.Texts.{with_text, place_of}
 use Rattle.lp_model.specs.declared.groups.Attr.{Attr}

@@ -1,5 +1,5 @@
 -- The groups that a Liberty text denotes (own rule).
-use Rattle.std.specs.Prelude.{ℕ, zero, suc, ◌+◌, Bool, true, false, List, [], ◌∷◌, ◌++◌, Option, Some, None}
+use Rattle.std.specs.Prelude.{ℕ, suc, ◌+◌, Bool, true, false, List, [], ◌∷◌, ◌++◌, Option, Some}
 use Rattle.lp_model.specs.GroupsView.{AttrView, GroupView}
 use Rattle.lp_groups.specs.Grammar.{Token, Name, Sign, Body, End, Last, Semi, Simple, Complex, Group}
 

@@ -1,9 +1,8 @@
 -- What the reader's functions answer, in terms of the list machine.
-use Rattle.std.specs.Prelude.{◌≡◌, ℕ, List, Result, Ok, Err}
-use Rattle.lp_model.specs.declared.groups.Group.{Group}
+use Rattle.std.specs.Prelude.{◌≡◌}
 use Rattle.lp_groups.specs.declared.run.Stop.{Stop}
 use Rattle.lp_groups.specs.declared.run.Stop.TheVariants as stops
-use Rattle.lp_groups.specs.Machine.{Machine, Step, Taken, Refused, Reading, Whole, Stopped, Deep, Long}
+use Rattle.lp_groups.specs.Machine.{Step, Refused, Reading, Stopped, Deep, Long}
 
 abbrev pub IsStop : Stop → Reading → Type 0
 IsStop (stops.Syntax place) r = r ≡ Stopped place

@@ -1,6 +1,5 @@
 -- The tokens of a whole text, each with its place (own rule).
-use Rattle.std.specs.Prelude.{ℕ, zero, suc, ◌+◌, ◌-◌, Bool, true, false, nat_lt, List, [], ◌∷◌, ◌++◌, length, take, drop, Option, Some, None}
-use Rattle.lp_groups.specs.declared.mark.Mark.{Mark}
+use Rattle.std.specs.Prelude.{ℕ, zero, suc, ◌+◌, ◌-◌, true, false, List, [], ◌∷◌, length, take, drop, Option, Some, None}
 use Rattle.lp_groups.specs.declared.mark.Mark.TheVariants as marks
 use Rattle.lp_groups.specs.declared.mark.Sort.{Sort}
 use Rattle.lp_groups.specs.declared.mark.Sort.TheVariants as sorts

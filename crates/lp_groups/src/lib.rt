@@ -13,3 +13,6 @@ mod runs;
 
 pub use laws::one_list_of_groups;
 pub use read::read_groups;
+
+#[cfg(test)]
+mod tests;

@@ -56,7 +56,12 @@ fn refusal_of(file: u32, text: &[u8], stop: Stop) -> Refusal
 /// word; for a token of more than 1,048,576 bytes, at its first byte. `Syntax` (F01) at the first token that no text of
 /// the form has after the same ones before it, or one past the last byte of a text that ends first. And where memory is
 /// refused. The table has grown by at most as many names as the text has bytes.
-pub fn read_groups(alloc: Global, names: &mut Names, file: u32, bytes: &[u8]) -> Result<Groups, Refusal>
+pub fn read_groups(
+    alloc: Global,
+    names: &mut Names,
+    file: u32,
+    bytes: &[u8],
+) -> Result<Groups, Refusal>
     requires { length names.old ≤ 3000000000 }
     ensures ok { IfOk result (ReadsGroups file bytes.now names.new) }
     ensures err { IfErr result (RefusedAs file bytes.now) }

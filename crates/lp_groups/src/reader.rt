@@ -219,7 +219,12 @@ impl Reader {
     }
 
     /// Takes a word or a string, or says that it cannot stand here.
-    pub(crate) fn take_name(&mut self, quoted: bool, id: NameId, at: usize) -> Result<bool, NoMemory>
+    pub(crate) fn take_name(
+        &mut self,
+        quoted: bool,
+        id: NameId,
+        at: usize,
+    ) -> Result<bool, NoMemory>
         ensures { IfOk result (λ taken. name_in quoted id at self.old ≡ (if taken then Some self.new else None)) }
     {
         match self.mode {

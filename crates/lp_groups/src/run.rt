@@ -58,7 +58,14 @@ fn intern(names: &mut Names, name: &str) -> Result<NameId, NoMemory>
 }
 
 /// Takes a word or a string, whose name becomes the last one where it is new.
-fn take_name(reader: &mut Reader, names: &mut Names, name: &mut String, said: &[u8], quoted: bool, at: usize) -> Result<bool, NoMemory>
+fn take_name(
+    reader: &mut Reader,
+    names: &mut Names,
+    name: &mut String,
+    said: &[u8],
+    quoted: bool,
+    at: usize,
+) -> Result<bool, NoMemory>
     requires { length names.old < 4294967295 }
     ensures names { OnOk result (names.new ≡ with_text names.old (name_of said.now)) }
     ensures taken { IfOk result (λ taken. name_in quoted (numbered_as (with_text names.old (name_of said.now)) (name_of said.now)) at reader.old ≡ (if taken then Some reader.new else None)) }
@@ -74,7 +81,11 @@ fn take_name(reader: &mut Reader, names: &mut Names, name: &mut String, said: &[
 fn refusal(deep: bool, head: usize, at: usize) -> Stop
     ensures { result ≡ (if deep then Stop.Deep head else Stop.Syntax at) }
 {
-    if deep { Stop::Deep(head) } else { Stop::Syntax(at) }
+    if deep {
+        Stop::Deep(head)
+    } else {
+        Stop::Syntax(at)
+    }
 }
 
 /// Takes a mark.
@@ -92,7 +103,14 @@ fn take_mark(reader: &mut Reader, mark: Mark, at: usize) -> Result<(), Stop>
 }
 
 /// Takes the next token of a text, unless there is none. Its first byte has the index `at`.
-fn step(reader: &mut Reader, names: &mut Names, name: &mut String, rest: &[u8], token: Lexed, at: usize) -> Result<(), Stop>
+fn step(
+    reader: &mut Reader,
+    names: &mut Names,
+    name: &mut String,
+    rest: &[u8],
+    token: Lexed,
+    at: usize,
+) -> Result<(), Stop>
     requires room { length names.old < 4294967295 }
     requires few { length reader.old.groups < 2 ^ 32 }
     requires order { token.from ≤ token.«to» }

@@ -1,4 +1,4 @@
-use Rattle.std.proofs.Common.{◌≡◌, ℕ, List, Result, Ok, Err, IfErr, length}
+use Rattle.std.proofs.Common.{ℕ, List, Result, Ok, Err, IfErr, length}
 use Rattle.lp_model.specs.declared.groups.Group.{Group}
 use Rattle.lp_groups.specs.declared.run.Stop.{Stop}
 use Rattle.lp_groups.specs.Machine.{read_in, start}

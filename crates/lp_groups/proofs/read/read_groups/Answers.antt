@@ -1,5 +1,4 @@
-use Rattle.std.proofs.Common.{◌≡◌, ◌<◌, ◌≤◌, length, sym, subst}
-use Rattle.lp_model.specs.declared.fault.refusal.Refusal.{Refusal}
+use Rattle.std.proofs.Common.{sym, subst}
 use Rattle.lp_groups.specs.Denotes as denotes
 use Rattle.lp_groups.specs.Denotes.{RefusedAs}
 use Rattle.lp_groups.proofs.Answered.{refused_as}

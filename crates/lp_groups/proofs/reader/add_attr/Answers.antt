@@ -1,6 +1,5 @@
-use Rattle.std.proofs.Common.{◌≡◌, ◌<◌, ◌≤◌, ◌++◌, ◌∷◌, [], length, get_or, ap, sym, ◌∙◌, arith}
-use Rattle.std.specs.Prelude.{slice_set, vec_len}
-use Rattle.lp_groups.specs.Machine.{with_attr, with_attr_at}
+use Rattle.std.proofs.Common.{ap, ◌∙◌, arith}
+use Rattle.std.specs.Prelude.{slice_set}
 use Rattle.lp_groups.proofs.Attrs.{attr_set, attr_beyond}
 use Rattle.lp_groups.proofs.reader.add_attr.Goals as goal
 

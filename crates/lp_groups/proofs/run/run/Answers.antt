@@ -2,11 +2,11 @@ use Rattle.std.proofs.Common.{◌≡◌, ℕ, suc, ◌+◌, ◌-◌, ◌≤◌, 
 use Rattle.std.proofs.lemmas.Result.{err_from_is_err_and}
 use Rattle.lp_groups.specs.declared.mark.Sort.{Sort}
 use Rattle.lp_groups.specs.declared.mark.Sort.TheVariants as sorts
-use Rattle.lp_groups.specs.Lexing.{is_end, lexed_at}
-use Rattle.lp_groups.specs.Machine.{Reading, Whole, Taken, finished, read_in, context_of, start, step_at}
+use Rattle.lp_groups.specs.Lexing.{is_end}
+use Rattle.lp_groups.specs.Machine.{Reading, Whole, finished, read_in, context_of, start}
 use Rattle.lp_groups.specs.Tokens.{tokens_of, tokens_from, token_of}
 use Rattle.lp_groups.specs.Outcome.{IsStop}
-use Rattle.lp_text.specs.Texts.{Grown, Grown-trans}
+use Rattle.lp_text.specs.Texts.{Grown-trans}
 use Rattle.lp_groups.proofs.Running.{unfolded, read_end, read_refused, read_taken, with_token}
 use Rattle.std.proofs.lemmas.List.{take_all}
 use Rattle.lp_groups.proofs.Few.{step_few}
@@ -94,7 +94,7 @@ loop-round-preserved c =
     let here = read_taken size c.loop-round.names m k c.loop-round.at rest l c.step.new.names n l.sort (goes_on l.sort (sym c.is_end.ensures ∙ c.if-is_end.false)) taken in
     let cut : drop (l.start + l.size) rest ≡ drop (c.loop-round.at + (l.start + l.size)) text = ap (drop (l.start + l.size)) (rest_is text c.loop-round.at) ∙ drop-drop (l.start + l.size) c.loop-round.at text in
     let moved : read_in size c.args.names.now start (tokens_of text) ≡ read_in size c.step.new.names n (tokens_from k (context_of n.mode) (c.loop-round.at + (l.start + l.size)) (drop (c.loop-round.at + (l.start + l.size)) text)) =
-        at_token at ∙ here ∙ ap (λ ts. read_in size c.step.new.names n (tokens_from k (context_of n.mode) (c.loop-round.at + (l.start + l.size)) ts)) cut in
+    at_token at ∙ here ∙ ap (λ ts. read_in size c.step.new.names n (tokens_from k (context_of n.mode) (c.loop-round.at + (l.start + l.size)) ts)) cut in
     let inside : l.start + l.size ≤ length rest = c.lexed_at-token.ensures.within in
     let long : length rest ≡ size - c.loop-round.at = ap length (rest_is text c.loop-round.at) ∙ length-drop c.loop-round.at text in
     let within : c.loop-round.at ≤ size = c.loop-round.invariant.inside in
@@ -107,5 +107,5 @@ loop-round-preserved c =
       inside = omega arith;
       groups = omega arith;
       grown = Grown-trans c.loop-round.invariant.grown c.in_ok-step.ensures.grown;
-      few = omega arith
+      few = omega arith;
     }

@@ -10,5 +10,5 @@ invariant-loop-round l = record {
   inside : l.at ≤ length l.text;
   groups : length l.reader.groups ≤ l.round;
   grown : Grown l.fn.names l.names;
-  few : length l.names ≤ length l.fn.names + l.round
+  few : length l.names ≤ length l.fn.names + l.round;
 }
