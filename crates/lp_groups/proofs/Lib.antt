@@ -3,6 +3,7 @@ mod Answered
 mod Attrs
 mod Few
 mod Found
+mod Gaps
 mod Joined
 mod Leaving
 mod Reading

@@ -4,5 +4,6 @@ pub mod Lexing
 pub mod Machine
 pub mod Meaning
 pub mod Outcome
+pub mod Spelling
 pub mod Stops
 pub mod Tokens
