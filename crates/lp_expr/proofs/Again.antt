@@ -1,9 +1,9 @@
 -- What is an expression is read as its tree.
-use Rattle.std.proofs.Common.{◌≡◌, ℕ, zero, suc, ◌⊎◌, inl, inr, ◌+◌, ◌<◌, ◌≤◌, ◌==◌, Bool, true, false, not, cond, List, [], ◌∷◌, ◌++◌, Option, Some, None, ◌&&◌, ◌||◌, refl, sym, ap, ◌∙◌, subst, arith, append_assoc}
-use Rattle.std.specs.Prelude.{if◌then◌else◌, nat_le, nat_lt, is_some, IsTrue, option_and_then}
+use Rattle.std.proofs.Common.{◌≡◌, ℕ, ◌⊎◌, inl, inr, ◌<◌, ◌≤◌, ◌==◌, Bool, true, false, not, cond, List, [], ◌∷◌, ◌++◌, Some, None, ◌&&◌, ◌||◌, refl, sym, ap, ◌∙◌, subst, arith, append_assoc}
+use Rattle.std.specs.Prelude.{nat_le, nat_lt, IsTrue, option_and_then}
 use Rattle.std.specs.List.{list_all}
 use Rattle.std.proofs.lemmas.List.{append-nil}
-use Rattle.std.proofs.lemmas.Bool.{true≢false, eqb-true, eq-eqb, le-leb, leb-true, leb-false, ltb-true}
+use Rattle.std.proofs.lemmas.Bool.{true≢false, eqb-true, le-leb, leb-true, ltb-true}
 use Rattle.lp_place.specs.Machines.{steps, steps-append}
 use Rattle.lp_expr.specs.declared.dialect.Dialect.{Dialect}
 use Rattle.lp_expr.specs.declared.dialect.Dialect.TheVariants.{Liberty, Control}
@@ -11,7 +11,7 @@ use Rattle.lp_expr.specs.declared.dialect.Sign.{Sign}
 use Rattle.lp_expr.specs.declared.dialect.Sign.TheVariants.{Caret, Star, Ampersand, Gap, Plus, Bar, TwoAmpersands, TwoBars}
 use Rattle.lp_expr.specs.Grammar.{Tree, Plain, Quoted, Group, Prefixed, Postfixed, Joined, is_blank, is_inner, is_prefix, is_liberty, looseness, is_filled, sign_bytes, spelling, height, lead, are_blank, is_name, fits_gap, is_tree}
 use Rattle.lp_expr.specs.Signs.{sign_at, is_half, longer}
-use Rattle.lp_expr.proofs.Zipper.{Frame, Open, Pending, Left, State, Want, InName, InQuotes, Have, Half, closed, signed, behind_sign, begin, wanting, shut, on_sign, follow, on_longer, step, start, whole, result_of, accepts}
+use Rattle.lp_expr.proofs.Zipper.{Frame, Open, Pending, Left, State, Want, InName, InQuotes, Have, Half, closed, signed, behind_sign, begin, shut, on_longer, step, start, whole, result_of}
 use Rattle.lp_expr.proofs.Found.{bound, both, conj_left, conj_right}
 
 -- ---- bytes
@@ -74,12 +74,12 @@ prefix_is Control b e = by (b == 33) refl
 
 leads : (d : Dialect) (b : ℕ) → Starts d b → Leads d b
 leads d b s = elim s [
-    | inl e ↦ inner_leads d b e
-    | inr others ↦ elim others [
-        | inl e ↦ elim (prefix_is d b e) [ | inl is ↦ subst (Leads d) (sym is) (mark_leads d).0 | inr is ↦ subst (Leads d) (sym is.0) (mark_leads d).1 ]
-        | inr marks ↦ elim marks [ | inl is ↦ subst (Leads d) (sym is) (mark_leads d).2 | inr is ↦ subst (Leads d) (sym is.0) (mark_leads d).3 ]
-      ]
+  | inl e ↦ inner_leads d b e
+  | inr others ↦ elim others [
+    | inl e ↦ elim (prefix_is d b e) [ inl is ↦ subst (Leads d) (sym is) (mark_leads d).0 | inr is ↦ subst (Leads d) (sym is.0) (mark_leads d).1 ]
+    | inr marks ↦ elim marks [ inl is ↦ subst (Leads d) (sym is) (mark_leads d).2 | inr is ↦ subst (Leads d) (sym is.0) (mark_leads d).3 ]
   ]
+]
 
 pub no_longer : (d : Dialect) (s : Sign) (b : ℕ) → (b == 38) ≡ false → (b == 124) ≡ false → longer d s b ≡ None
 no_longer Control Ampersand b e f = rw e refl
@@ -125,7 +125,7 @@ joined_parts d l gap s r h =
       blank = conj_left a4 (a5 && (a6 && a7)) h4;
       right_tree = conj_left a5 (a6 && a7) h5;
       right_height = ltb-true (height d r) (looseness d s) (conj_left a6 a7 h6);
-      fits = conj_right a6 a7 h6
+      fits = conj_right a6 a7 h6;
     }
 
 -- ---- the first byte of a tree
@@ -306,7 +306,7 @@ wants_quote Control fs gap h = absurd (true≢false (sym h))
 
 mark_not_inner : (d : Dialect) (m : ℕ) → is_prefix d m ≡ true → is_inner m ≡ false
 unfolding is_inner
-mark_not_inner d m h = elim (prefix_is d m h) [ | inl is ↦ rw is refl | inr is ↦ rw is.0 refl ]
+mark_not_inner d m h = elim (prefix_is d m h) [ inl is ↦ rw is refl | inr is ↦ rw is.0 refl ]
 
 wants_mark : (d : Dialect) (fs : List Frame) (gap : List ℕ) (m : ℕ) → is_prefix d m ≡ true → step d (Want fs gap) m ≡ Some (Want (Pending gap m ∷ fs) [])
 wants_mark d fs gap m h = rw ((leads d m (inr (inl h))).no_blank, mark_not_inner d m h, h) refl
@@ -481,13 +481,13 @@ of_control d fs l gap s x r f p q h = subst (λ (y : Sign). Leads_on d fs l gap 
 joined_leads : (d : Dialect) (fs : List Frame) (l : Tree) (gap : List ℕ) (s : Sign) (r : Tree) → Begins d r → SignKind d s → Leads_on d fs l gap r s
 joined_leads d fs l gap s r f (Single at) = single_leads d fs l gap r s at
 joined_leads d fs l gap s r f (Ambiguous language sign) = elim sign [
-    | inl is ↦ of_control d fs l gap s Ampersand r f language is (λ g. ampersand_leads fs l gap r g)
-    | inr is ↦ of_control d fs l gap s Bar r f language is (λ g. bar_leads fs l gap r g)
-  ]
+  | inl is ↦ of_control d fs l gap s Ampersand r f language is (λ g. ampersand_leads fs l gap r g)
+  | inr is ↦ of_control d fs l gap s Bar r f language is (λ g. bar_leads fs l gap r g)
+]
 joined_leads d fs l gap s r f (Double language sign) = elim sign [
-    | inl is ↦ of_control d fs l gap s TwoAmpersands r f language is (λ g. ampersands_lead fs l gap r g)
-    | inr is ↦ of_control d fs l gap s TwoBars r f language is (λ g. bars_lead fs l gap r g)
-  ]
+  | inl is ↦ of_control d fs l gap s TwoAmpersands r f language is (λ g. ampersands_lead fs l gap r g)
+  | inr is ↦ of_control d fs l gap s TwoBars r f language is (λ g. bars_lead fs l gap r g)
+]
 joined_leads d fs l gap s r f (Blanks language sign) =
     subst (λ (y : Sign). Leads_on d fs l gap r y) (sym sign) (subst (λ (y : Dialect). Leads_on y fs l gap r Gap) (sym language) (gap_leads fs l gap r (subst (λ (y : Dialect). Begins y r) language f)))
 
@@ -498,31 +498,31 @@ arrives d fs (Plain gap []) h under = absurd (true≢false (sym (conj_right (are
 arrives d fs (Plain gap (b ∷ name)) h under =
     let inner = conj_right (are_blank gap) (is_name (b ∷ name)) h in
     arrived d fs (Plain gap (b ∷ name)) (InName fs gap (b ∷ name))
-        (behind d (Want fs []) (Want fs gap) gap (b ∷ name) (wants_blanks d fs [] gap (conj_left (are_blank gap) (is_name (b ∷ name)) h))
-         ∙ one d (Want fs gap) (InName fs gap (b ∷ [])) b name (wants_name d fs gap b (conj_left (is_inner b) (list_all is_inner name) inner))
-         ∙ name_goes_on d fs gap (b ∷ []) name (conj_right (is_inner b) (list_all is_inner name) inner))
-        refl
+    (behind d (Want fs []) (Want fs gap) gap (b ∷ name) (wants_blanks d fs [] gap (conj_left (are_blank gap) (is_name (b ∷ name)) h))
+    ∙ one d (Want fs gap) (InName fs gap (b ∷ [])) b name (wants_name d fs gap b (conj_left (is_inner b) (list_all is_inner name) inner))
+    ∙ name_goes_on d fs gap (b ∷ []) name (conj_right (is_inner b) (list_all is_inner name) inner))
+    refl
 arrives d fs (Quoted gap name) h under =
     let named = conj_left (is_name name) (is_liberty d) (conj_right (are_blank gap) (is_name name && is_liberty d) h) in
     let language = conj_right (is_name name) (is_liberty d) (conj_right (are_blank gap) (is_name name && is_liberty d) h) in
     arrived d fs (Quoted gap name) (Have fs (Quoted gap name) [])
-        (behind d (Want fs []) (Want fs gap) gap (34 ∷ (name ++ 34 ∷ [])) (wants_blanks d fs [] gap (conj_left (are_blank gap) (is_name name && is_liberty d) h))
-         ∙ one d (Want fs gap) (InQuotes fs gap []) 34 (name ++ 34 ∷ []) (wants_quote d fs gap language)
-         ∙ behind d (InQuotes fs gap []) (InQuotes fs gap name) name (34 ∷ []) (quote_goes_on d fs gap [] name (conj_right (is_filled name) (list_all is_inner name) named))
-         ∙ one d (InQuotes fs gap name) (Have fs (Quoted gap name) []) 34 [] (quote_ends d fs gap name (conj_left (is_filled name) (list_all is_inner name) named)))
-        refl
+    (behind d (Want fs []) (Want fs gap) gap (34 ∷ (name ++ 34 ∷ [])) (wants_blanks d fs [] gap (conj_left (are_blank gap) (is_name name && is_liberty d) h))
+    ∙ one d (Want fs gap) (InQuotes fs gap []) 34 (name ++ 34 ∷ []) (wants_quote d fs gap language)
+    ∙ behind d (InQuotes fs gap []) (InQuotes fs gap name) name (34 ∷ []) (quote_goes_on d fs gap [] name (conj_right (is_filled name) (list_all is_inner name) named))
+    ∙ one d (InQuotes fs gap name) (Have fs (Quoted gap name) []) 34 [] (quote_ends d fs gap name (conj_left (is_filled name) (list_all is_inner name) named)))
+    refl
 arrives d fs (Group gap t end) h under =
     let inside = conj_right (are_blank gap) (is_tree d t && are_blank end) h in
     let small : height d t < 6 = let low = height_small d t in omega arith in
     let a = arrives d (Open gap ∷ fs) t (conj_left (is_tree d t) (are_blank end) inside) small in
     let shuts : step d (Have a.frames a.tree end) 41 ≡ Some (Have fs (Group gap t end) []) = parenthesis_ends d a.frames a.tree end ∙ ap (λ c. shut c end) (a.ends 5 (height_small d t)) in
     arrived d fs (Group gap t end) (Have fs (Group gap t end) [])
-        (behind d (Want fs []) (Want fs gap) gap (40 ∷ (spelling t ++ (end ++ 41 ∷ []))) (wants_blanks d fs [] gap (conj_left (are_blank gap) (is_tree d t && are_blank end) h))
-         ∙ one d (Want fs gap) (Want (Open gap ∷ fs) []) 40 (spelling t ++ (end ++ 41 ∷ [])) (wants_parenthesis d fs gap)
-         ∙ behind d (Want (Open gap ∷ fs) []) a.state (spelling t) (end ++ 41 ∷ []) a.taken
-         ∙ after_operand d a.state a.frames a.tree end 41 [] a.settled (conj_right (is_tree d t) (are_blank end) inside) inner_41
-         ∙ one d (Have a.frames a.tree end) (Have fs (Group gap t end) []) 41 [] shuts)
-        refl
+    (behind d (Want fs []) (Want fs gap) gap (40 ∷ (spelling t ++ (end ++ 41 ∷ []))) (wants_blanks d fs [] gap (conj_left (are_blank gap) (is_tree d t && are_blank end) h))
+    ∙ one d (Want fs gap) (Want (Open gap ∷ fs) []) 40 (spelling t ++ (end ++ 41 ∷ [])) (wants_parenthesis d fs gap)
+    ∙ behind d (Want (Open gap ∷ fs) []) a.state (spelling t) (end ++ 41 ∷ []) a.taken
+    ∙ after_operand d a.state a.frames a.tree end 41 [] a.settled (conj_right (is_tree d t) (are_blank end) inside) inner_41
+    ∙ one d (Have a.frames a.tree end) (Have fs (Group gap t end) []) 41 [] shuts)
+    refl
 arrives d fs (Prefixed gap m t) h under =
     let marked = conj_right (are_blank gap) (is_prefix d m && (is_tree d t && nat_le (height d t) 1)) h in
     let inside = conj_right (is_prefix d m) (is_tree d t && nat_le (height d t) 1) marked in
@@ -531,13 +531,13 @@ arrives d fs (Prefixed gap m t) h under =
     record {
       state = a.state;
       taken = behind d (Want fs []) (Want fs gap) gap (m ∷ spelling t) (wants_blanks d fs [] gap (conj_left (are_blank gap) (is_prefix d m && (is_tree d t && nat_le (height d t) 1)) h))
-         ∙ one d (Want fs gap) (Want (Pending gap m ∷ fs) []) m (spelling t) (wants_mark d fs gap m (conj_left (is_prefix d m) (is_tree d t && nat_le (height d t) 1) marked))
-         ∙ a.taken;
+          ∙ one d (Want fs gap) (Want (Pending gap m ∷ fs) []) m (spelling t) (wants_mark d fs gap m (conj_left (is_prefix d m) (is_tree d t && nat_le (height d t) 1) marked))
+          ∙ a.taken;
       frames = a.frames;
       tree = a.tree;
       settled = a.settled;
       ends = λ k up. a.ends k (omega arith);
-      exact = λ e. absurd (omega arith)
+      exact = λ e. absurd (omega arith);
     }
 arrives d fs (Postfixed t gap) h under =
     let language = conj_left (is_liberty d) (is_tree d t && ((height d t == 0) && are_blank gap)) h in
@@ -548,10 +548,10 @@ arrives d fs (Postfixed t gap) h under =
     let same = a.exact zero_height in
     let settled : settle a.state ≡ Have fs t [] = a.settled ∙ ap (λ gs. Have gs a.tree []) same.0 ∙ ap (λ x. Have fs x []) same.1 in
     arrived d fs (Postfixed t gap) (Have fs (Postfixed t gap) [])
-        (behind d (Want fs []) a.state (spelling t) (gap ++ 39 ∷ []) a.taken
-         ∙ after_operand d a.state fs t gap 39 [] settled (conj_right (height d t == 0) (are_blank gap) low) inner_39
-         ∙ one d (Have fs t gap) (Have fs (Postfixed t gap) []) 39 [] (postfix_ends d fs t gap language))
-        refl
+    (behind d (Want fs []) a.state (spelling t) (gap ++ 39 ∷ []) a.taken
+    ∙ after_operand d a.state fs t gap 39 [] settled (conj_right (height d t == 0) (are_blank gap) low) inner_39
+    ∙ one d (Have fs t gap) (Have fs (Postfixed t gap) []) 39 [] (postfix_ends d fs t gap language))
+    refl
 arrives d fs (Joined l gap s r) h under =
     let parts = joined_parts d l gap s r h in
     let listed = parts.listed in
@@ -563,13 +563,13 @@ arrives d fs (Joined l gap s r) h under =
     record {
       state = b.state;
       taken = behind d (Want fs []) a.state (spelling l) (gap ++ (sign_bytes s ++ spelling r)) a.taken
-         ∙ joined_leads d fs l gap s r (begins d r parts.right_tree) (sign_kind d s parts.listed) a.state a.frames a.tree a.settled ended parts
-         ∙ b.taken;
+          ∙ joined_leads d fs l gap s r (begins d r parts.right_tree) (sign_kind d s parts.listed) a.state a.frames a.tree a.settled ended parts
+          ∙ b.taken;
       frames = b.frames;
       tree = b.tree;
       settled = b.settled;
       ends = λ k up. b.ends k (omega arith) ∙ ap (λ c. cond c (closed d k fs (Joined l gap s r)) (Left l gap s ∷ fs, r)) (le-leb (looseness d s) k up);
-      exact = λ e. absurd (omega arith)
+      exact = λ e. absurd (omega arith);
     }
 
 -- ---- whole texts

@@ -1,6 +1,6 @@
 -- What the machine has read is what its frames and its tree spell.
-use Rattle.std.proofs.Common.{◌≡◌, ℕ, zero, suc,  ◌+◌, ◌<◌, ◌≤◌, ◌==◌, Bool, true, false, not, cond, List, [], ◌∷◌, ◌++◌, Option, Some, None, ◌&&◌, refl, sym, ap, ◌∙◌, subst, arith, append_assoc}
-use Rattle.std.specs.Prelude.{if◌then◌else◌, nat_le, nat_lt, is_some, IsTrue, IfSome, option_and_then}
+use Rattle.std.proofs.Common.{◌≡◌, ℕ, ◌<◌, ◌≤◌, ◌==◌, Bool, true, false, not, List, [], ◌∷◌, ◌++◌, Option, Some, None, ◌&&◌, refl, sym, ap, ◌∙◌, subst, arith, append_assoc}
+use Rattle.std.specs.Prelude.{if◌then◌else◌, nat_le, nat_lt, IsTrue, IfSome, option_and_then}
 use Rattle.std.specs.List.{list_all}
 use Rattle.std.proofs.lemmas.List.{append-nil}
 use Rattle.std.proofs.lemmas.Bool.{true≢false, eqb-true, eq-eqb, le-leb, leb-true, leb-false, lt-ltb}
@@ -9,10 +9,10 @@ use Rattle.lp_expr.specs.declared.dialect.Dialect.{Dialect}
 use Rattle.lp_expr.specs.declared.dialect.Dialect.TheVariants.{Liberty, Control}
 use Rattle.lp_expr.specs.declared.dialect.Sign.{Sign}
 use Rattle.lp_expr.specs.declared.dialect.Sign.TheVariants.{Caret, Star, Ampersand, Gap, Plus, Bar, TwoAmpersands, TwoBars}
-use Rattle.lp_expr.specs.Grammar.{Tree, Plain, Quoted, Group, Prefixed, Postfixed, Joined, is_blank, is_inner, is_prefix, is_liberty, looseness, is_filled, sign_bytes, spelling, height, lead, are_blank, is_name, fits_gap, is_tree, Spells}
+use Rattle.lp_expr.specs.Grammar.{Tree, Plain, Quoted, Group, Prefixed, Postfixed, Joined, is_blank, is_inner, is_prefix, is_liberty, looseness, is_filled, sign_bytes, spelling, height, lead, are_blank, is_name, fits_gap, is_tree}
 use Rattle.lp_place.specs.Machines.{steps}
 use Rattle.lp_expr.specs.Signs.{sign_at, is_half, longer}
-use Rattle.lp_expr.proofs.Zipper.{Frame, Open, Pending, Left, State, Want, InName, InQuotes, Have, Half, closed, signed, behind_sign, begin, wanting, shut, on_sign, follow, on_longer, step, start, whole, result_of, accepts}
+use Rattle.lp_expr.proofs.Zipper.{Frame, Open, Pending, Left, State, Want, InName, InQuotes, Have, Half, closed, behind_sign, begin, wanting, shut, on_sign, follow, on_longer, step, start, whole, result_of}
 
 abbrev pub frames_text : List Frame → List ℕ
 frames_text [] = []
@@ -272,8 +272,8 @@ on_sign_good d fs t gap b h (Some s) sign =
     let spelled : frames_text fs ++ (spelling t ++ (gap ++ sign_bytes s)) ≡ frames_text fs ++ (spelling t ++ (gap ++ b ∷ [])) = ap (λ xs. frames_text fs ++ (spelling t ++ (gap ++ xs))) sign.spelled in
     let free = sign.plain_sign (closed d (looseness d s) fs t).1 gap (closed d (looseness d s) fs t).0 in
     some_if (HasRead d (frames_text fs ++ (spelling t ++ (gap ++ b ∷ [])))) (is_half d s) (Some (Half fs t gap s)) (Some (Want (behind_sign d s fs t gap) []))
-        (λ e. ((h.frames, h.tree, h.zero_height, h.fits, h.blank, e), spelled))
-        (λ _. ((after.0, refl, free), append-nil (frames_text (behind_sign d s fs t gap)) ∙ after.1 ∙ spelled))
+    (λ e. ((h.frames, h.tree, h.zero_height, h.fits, h.blank, e), spelled))
+    (λ _. ((after.0, refl, free), append-nil (frames_text (behind_sign d s fs t gap)) ∙ after.1 ∙ spelled))
 on_sign_good d fs t gap b h None sign =
     some_if (HasRead d text) (is_filled gap && is_liberty d) (begin d (behind_sign d Gap fs t gap) [] b) None by (λ _. tt)
   where
@@ -335,18 +335,19 @@ step_good d (Want fs gap) b h = subst (λ (x : List ℕ). IfSome (wanting d fs g
 step_good d (InName fs gap run) b h =
     subst (λ (x : List ℕ). IfSome (step d (InName fs gap run) b) (HasRead d x)) same
     (some_if (HasRead d (frames_text fs ++ (gap ++ (run ++ b ∷ [])))) (is_inner b) (Some (InName fs gap (run ++ b ∷ []))) (follow d fs (Plain gap run) [] b)
-        (λ e. ((h.0, h.1, both (is_filled (run ++ b ∷ [])) (list_all is_inner (run ++ b ∷ [])) (filled_push run b) (all_push is_inner run b (conj_right (is_filled run) (list_all is_inner run) h.2) e), h.3), refl))
-        (λ _. subst (λ (x : List ℕ). IfSome (follow d fs (Plain gap run) [] b) (HasRead d (frames_text fs ++ x))) (append_assoc gap run (b ∷ [])) (follow_good d fs (Plain gap run) [] b (record { frames = h.0; tree = both (are_blank gap) (is_name run) h.1 h.2; zero_height = refl; fits = h.3; blank = refl }))))
+    (λ e. ((h.0, h.1, both (is_filled (run ++ b ∷ [])) (list_all is_inner (run ++ b ∷ [])) (filled_push run b) (all_push is_inner run b (conj_right (is_filled run) (list_all is_inner run) h.2) e), h.3), refl))
+    (λ _. subst (λ (x : List ℕ). IfSome (follow d fs (Plain gap run) [] b) (HasRead d (frames_text fs ++ x))) (append_assoc gap run (b ∷ [])) (follow_good d fs (Plain gap run) [] b (record { frames = h.0; tree = both (are_blank gap) (is_name run) h.1 h.2; zero_height = refl; fits = h.3; blank = refl }))))
   where
     same : frames_text fs ++ (gap ++ (run ++ b ∷ [])) ≡ (frames_text fs ++ (gap ++ run)) ++ b ∷ []
     same = simp append_assoc
 step_good d (InQuotes fs gap run) b h =
     subst (λ (x : List ℕ). IfSome (step d (InQuotes fs gap run) b) (HasRead d x)) same
     (some_if (HasRead d text) (is_inner b) (Some (InQuotes fs gap (run ++ b ∷ []))) (if (b == 34) && is_filled run then Some (Have fs (Quoted gap run) []) else None)
-        (λ e. ((h.0, h.1, all_push is_inner run b h.2 e, h.3, h.4), refl))
-        (λ _. some_if (HasRead d text) ((b == 34) && is_filled run) (Some (Have fs (Quoted gap run) [])) None (λ e.
-            ((h.0, both (are_blank gap) (is_name run && is_liberty d) h.1 (both (is_name run) (is_liberty d) (both (is_filled run) (list_all is_inner run) (conj_right (b == 34) (is_filled run) e) h.2) h.3), refl, h.4, refl),
-             ap (λ xs. frames_text fs ++ xs) (append-nil (gap ++ 34 ∷ (run ++ 34 ∷ []))) ∙ ap (λ x. frames_text fs ++ (gap ++ 34 ∷ (run ++ x ∷ []))) (sym (eqb-true b 34 (conj_left (b == 34) (is_filled run) e))))) (λ _. tt)))
+    (λ e. ((h.0, h.1, all_push is_inner run b h.2 e, h.3, h.4), refl))
+    (λ _. some_if (HasRead d text) ((b == 34) && is_filled run) (Some (Have fs (Quoted gap run) [])) None (λ e. (
+      (h.0, both (are_blank gap) (is_name run && is_liberty d) h.1 (both (is_name run) (is_liberty d) (both (is_filled run) (list_all is_inner run) (conj_right (b == 34) (is_filled run) e) h.2) h.3), refl, h.4, refl),
+      ap (λ xs. frames_text fs ++ xs) (append-nil (gap ++ 34 ∷ (run ++ 34 ∷ []))) ∙ ap (λ x. frames_text fs ++ (gap ++ 34 ∷ (run ++ x ∷ []))) (sym (eqb-true b 34 (conj_left (b == 34) (is_filled run) e))),
+    )) (λ _. tt)))
   where
     text : List ℕ
     text = frames_text fs ++ (gap ++ 34 ∷ (run ++ b ∷ []))

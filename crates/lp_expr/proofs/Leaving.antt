@@ -1,16 +1,14 @@
 -- The machine finds, reads again and can be led to the end of each text that it has begun: so where it stops, the text leaves the language.
-use Rattle.std.proofs.Common.{◌≡◌, ℕ, ◌⊎◌, inl, inr, ◌≤◌, ◌==◌, Bool, true, false, cond, List, [], ◌∷◌, ◌++◌, length, take, drop, Option, Some, None, ◌&&◌, refl, sym, ap, ◌∙◌, subst, arith}
-use Rattle.std.specs.Prelude.{is_some, IsTrue, option_and_then}
+use Rattle.std.proofs.Common.{◌≡◌, ℕ, ◌⊎◌, inl, inr, ◌≤◌, true, cond, List, [], ◌∷◌, ◌++◌, length, take, drop, Option, Some, None, refl, sym, ap, ◌∙◌}
+use Rattle.std.specs.Prelude.{is_some, option_and_then}
 use Rattle.std.proofs.lemmas.Bool.{true≢false, le-leb}
 use Rattle.lp_place.specs.Leaving.{Leaves}
 use Rattle.lp_place.specs.Machines.{steps, Stops, Recognizes, Finishes, leaves}
 use Rattle.lp_expr.specs.declared.dialect.Dialect.{Dialect}
-use Rattle.lp_expr.specs.declared.dialect.Dialect.TheVariants.{Liberty, Control}
 use Rattle.lp_expr.specs.declared.dialect.Sign.{Sign}
-use Rattle.lp_expr.specs.declared.dialect.Sign.TheVariants.{Caret, Star, Ampersand, Gap, Plus, Bar, TwoAmpersands, TwoBars}
-use Rattle.lp_expr.specs.Grammar.{Tree, Plain, Quoted, Group, Prefixed, Postfixed, Joined, is_blank, is_inner, is_liberty, looseness, is_filled, Spells, IsExpression}
+use Rattle.lp_expr.specs.Grammar.{Tree, Plain, Quoted, Group, Prefixed, Joined, is_inner, looseness, Spells, IsExpression}
 use Rattle.lp_expr.specs.Signs.{longer}
-use Rattle.lp_expr.proofs.Zipper.{Frame, Open, Pending, Left, State, Want, InName, InQuotes, Have, Half, closed, behind_sign, begin, wanting, shut, follow, on_longer, step, start, whole, result_of, accepts}
+use Rattle.lp_expr.proofs.Zipper.{Frame, Open, Pending, Left, State, Want, InName, InQuotes, Have, Half, closed, behind_sign, shut, on_longer, step, start, whole, result_of, accepts}
 use Rattle.lp_expr.proofs.Found as finding
 use Rattle.lp_expr.proofs.Again as reading
 
@@ -35,7 +33,7 @@ closings_kind (Left l g s ∷ fs) = closings_kind fs
 
 -- two states that parentheses and the end treat alike
 same_end : (d : Dialect) (z u : State) (fs : List Frame) → step d z 41 ≡ step d u 41 → accepts d z ≡ accepts d u → Ends d u (closings fs) → Ends d z (closings fs)
-same_end d z u fs parenthesis end h = elim (closings_kind fs) [ | inl none ↦ at_end none | inr more ↦ at_parenthesis more.0 more.1 ]
+same_end d z u fs parenthesis end h = elim (closings_kind fs) [ inl none ↦ at_end none | inr more ↦ at_parenthesis more.0 more.1 ]
   where
     at_end : closings fs ≡ [] → Ends d z (closings fs)
     at_end none =
@@ -82,10 +80,11 @@ ends : (d : Dialect) (z : State) → (rest : List ℕ) × Ends d z rest
 ends d (Want fs gap) = (65 ∷ closings fs, want_ends d fs gap)
 ends d (InName fs gap run) = (closings fs, name_ends d fs gap run)
 ends d (InQuotes fs gap run) =
-    let longer_run = run ++ 65 ∷ [] in
-    (65 ∷ (34 ∷ closings fs),
-     first_ends d (InQuotes fs gap run) (InQuotes fs gap longer_run) 65 (34 ∷ closings fs) (rw inner_65 refl)
-     (first_ends d (InQuotes fs gap longer_run) (Have fs (Quoted gap longer_run) []) 34 (closings fs) (reading.quote_ends d fs gap longer_run (finding.filled_push run 65)) (have_ends d fs (Quoted gap longer_run) [])))
+    let longer_run = run ++ 65 ∷ [] in (
+      65 ∷ (34 ∷ closings fs),
+      first_ends d (InQuotes fs gap run) (InQuotes fs gap longer_run) 65 (34 ∷ closings fs) (rw inner_65 refl)
+          (first_ends d (InQuotes fs gap longer_run) (Have fs (Quoted gap longer_run) []) 34 (closings fs) (reading.quote_ends d fs gap longer_run (finding.filled_push run 65)) (have_ends d fs (Quoted gap longer_run) [])),
+    )
 ends d (Have fs t gap) = (closings fs, have_ends d fs t gap)
 ends d (Half fs t gap s) =
     let gs = behind_sign d s fs t gap in
@@ -107,7 +106,7 @@ spells d text z r taken is = let f = finding.found d text z r taken is in record
 pub recognizes : (d : Dialect) → Recognizes (step d) (accepts d) start (IsExpression d)
 recognizes d = record {
   found = λ text z taken accepted. let r = result_is d z accepted in spells d text z r.0 taken r.1;
-  again = λ text h. let a = reading.again d h.tree h.tail h.good h.blank in (a.0, ap (steps (step d) start) h.spelled ∙ a.1, ap is_some a.2)
+  again = λ text h. let a = reading.again d h.tree h.tail h.good h.blank in (a.0, ap (steps (step d) start) h.spelled ∙ a.1, ap is_some a.2);
 }
 
 pub finishes : (d : Dialect) → Finishes (step d) (accepts d) start (λ z. Unit {0})

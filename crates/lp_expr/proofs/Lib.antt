@@ -1,6 +1,14 @@
 pub mod Again
+pub mod Bits
+pub mod Digits
 pub mod Found
 pub mod Leaving
 pub mod Numbers
+pub mod PartsLaws
+pub mod PlacesLemmas
+pub mod PostfixLemmas
+pub mod Replacements
 pub mod Simulation
+pub mod SlotsLemmas
+pub mod TableLemmas
 pub mod Zipper

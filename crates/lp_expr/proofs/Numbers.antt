@@ -1,13 +1,13 @@
 -- Variables and the texts of their numbers.
-use Rattle.std.proofs.Common.{◌≡◌, ℕ, zero, suc, ◌+◌, ◌<◌, ◌≤◌, Bool, true, false, cond, List, [], ◌∷◌, ◌++◌, length, map, Option, Some, None, ◌&&◌, ◌||◌, refl, sym, ap, ◌∙◌, subst, arith, length-append}
-use Rattle.std.specs.Prelude.{if◌then◌else◌, nat_lt, is_some, IsTrue, fold, flat_map}
-use Rattle.std.specs.List.{list_all}
-use Rattle.std.proofs.lemmas.Bool.{true≢false, lt-ltb, ltb-true}
-use Rattle.std.proofs.lemmas.List.{append-nil, map-append, length-map}
+use Rattle.std.proofs.Common.{◌≡◌, ℕ, suc, ◌+◌, ◌<◌, ◌≤◌, Bool, true, false, cond, List, [], ◌∷◌, ◌++◌, length, Option, Some, None, ◌||◌, refl, sym, ap, ◌∙◌, subst, arith, length-append}
+use Rattle.std.specs.Prelude.{if◌then◌else◌, nat_lt, is_some, IsTrue, fold}
+use Rattle.std.specs.Option.{option_map}
+use Rattle.std.proofs.lemmas.Bool.{lt-ltb, ltb-true}
+use Rattle.std.proofs.lemmas.List.{map-append, length-map}
 use Rattle.std.proofs.lemmas.List.Folds.{list_all-append}
 use Rattle.lp_text.specs.declared.names.NameId.{NameId}
 use Rattle.lp_text.specs.Texts.{same_text, has_text, text_at, with_text, place_of, place_of-Some, Grown, Grown-refl, Grown-with_text, Grown-KeepsNumbers}
-use Rattle.lp_expr.specs.Denotes.{place_from, texts_of, are_below, Noted, Overflows, firsts}
+use Rattle.lp_expr.specs.Denotes.{place_from, texts_of, are_below, Noted, Overflows}
 use Rattle.lp_expr.proofs.Found.{conj_left, conj_right, both}
 
 pub is_some-place_from : (k : ℕ) (name : List ℕ) (texts : List (List ℕ)) → is_some (place_from k name texts) ≡ has_text name texts
@@ -59,7 +59,7 @@ noted_new names new ids name id below few room absent is number =
       few = omega arith;
       one_more = omega arith;
       paid = omega arith;
-      grown = grown
+      grown = grown;
     }
 
 -- a thirteenth name
@@ -87,3 +87,19 @@ overflows_all old before more rest new all h e =
     let grows = length-fold (fold with_text (texts_of old before) more) rest in
     let same : length (fold with_text (fold with_text (texts_of old before) more) rest) ≡ length all = ap length (sym (fold-append (texts_of old before) more rest) ∙ e) in
     omega arith
+
+place_from-more : (k : ℕ) (name : List ℕ) (texts : List (List ℕ)) → place_from k name texts ≡ option_map (λ j. k + j) (place_of name texts)
+place_from-more k name [] = refl
+place_from-more k name (t ∷ texts) = by (same_text name t) (place_of name texts) (place_from-more (k + 1) name texts)
+  where
+    by : (c : Bool) (o : Option ℕ) → place_from (k + 1) name texts ≡ option_map (λ j. k + 1 + j) o → (if c then Some k else place_from (k + 1) name texts) ≡ option_map (λ j. k + j) (if c then Some 0 else option_map suc o)
+    by true o e = let same : k ≡ k + 0 = omega arith in ap Some same
+    by false None e = e
+    by false (Some j) e = let same : k + 1 + j ≡ k + suc j = omega arith in e ∙ ap Some same
+
+pub place_from-zero : (name : List ℕ) (texts : List (List ℕ)) → place_from 0 name texts ≡ place_of name texts
+place_from-zero name texts = place_from-more 0 name texts ∙ by (place_of name texts)
+  where
+    by : (o : Option ℕ) → option_map (λ j. 0 + j) o ≡ o
+    by None = refl
+    by (Some j) = let same : 0 + j ≡ j = omega arith in ap Some same

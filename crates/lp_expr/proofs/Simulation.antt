@@ -1,5 +1,5 @@
 -- The reader moves as the machine that holds trees does.
-use Rattle.std.proofs.Common.{◌≡◌, ℕ, zero, suc, ◌+◌, ◌-◌, ◌<◌, ◌≤◌, ◌==◌, Bool, true, false, cond, List, [], ◌∷◌, ◌++◌, length, take, drop, drop-drop, Option, Some, None, ◌&&◌, refl, sym, ap, ◌∙◌, subst, arith, append_assoc}
+use Rattle.std.proofs.Common.{◌≡◌, ℕ, zero, suc, ◌+◌, ◌-◌, ◌<◌, ◌≤◌, ◌==◌, Bool, true, false, List, [], ◌∷◌, ◌++◌, length, take, drop, drop-drop, Option, Some, None, ◌&&◌, refl, sym, ap, ◌∙◌, subst, arith, append_assoc}
 use Rattle.std.specs.Prelude.{if◌then◌else◌, nat_le, nat_lt, is_some, IsTrue, map, option_and_then}
 use Rattle.std.proofs.lemmas.List.{append-nil, map-append, length-drop, take-append-drop}
 use Rattle.std.specs.List.{list_all}
@@ -15,15 +15,15 @@ use Rattle.lp_expr.specs.declared.dialect.Mode as mode
 use Rattle.lp_expr.specs.declared.dialect.Mode.TheVariants as modes
 use Rattle.lp_expr.specs.declared.dialect.Part as part
 use Rattle.lp_expr.specs.declared.dialect.Part.TheVariants as parts
-use Rattle.lp_expr.specs.Grammar.{Tree, Plain, Quoted, Group, Prefixed, Postfixed, Joined, is_blank, is_inner, is_prefix, is_liberty, looseness, is_filled}
+use Rattle.lp_expr.specs.Grammar.{Tree, Plain, Quoted, Prefixed, Postfixed, Joined, is_blank, is_inner, is_prefix, is_liberty, looseness, is_filled}
 use Rattle.lp_expr.specs.Signs.{sign_at, is_half, longer}
 use Rattle.lp_place.specs.Leaving.{Leaves}
 use Rattle.lp_place.specs.Machines.{Stops, steps-append}
 use Rattle.lp_expr.specs.Grammar.{IsExpression}
 use Rattle.lp_expr.specs.Parts.{ReadsParts}
 use Rattle.lp_expr.proofs.Leaving.{spells, leaves_at}
-use Rattle.lp_expr.specs.Parts.{Item, Bare, InQuotes, Negated, Joint, tree_items, between, item_of, is_within}
-use Rattle.lp_expr.specs.Machine.{Machine, closed_marks, closed_in, signed_in, with_last, waiting_for, with_part, begun, wanted, shut_marks, shut_in, on_sign_in, followed, on_longer_in, step_by, step_in, whole_of, whole_in, finished_by, finished, Reading, Stopped, Whole, ending, going_on, read_in, start}
+use Rattle.lp_expr.specs.Parts.{Item, Bare, InQuotes, Joint, tree_items, between, item_of, is_within}
+use Rattle.lp_expr.specs.Machine.{Machine, closed_marks, closed_in, signed_in, with_last, waiting_for, with_part, begun, wanted, shut_marks, shut_in, on_sign_in, followed, on_longer_in, step_by, step_in, whole_of, finished_by, finished, Reading, Stopped, Whole, ending, going_on, read_in, start}
 use Rattle.lp_expr.proofs.Zipper as zip
 use Rattle.lp_expr.proofs.Zipper.{Frame, Open, Pending, Left, State, Want, InName, Have, Half, closed, signed, behind_sign, begin, wanting, shut, on_sign, follow, on_longer, step, whole, result_of, accepts}
 use Rattle.lp_expr.proofs.Found.{filled_push}
@@ -84,7 +84,7 @@ module _ (text : List ℕ) where
       by (nat_le (looseness d x) h) (closed_same d h fs (Joined l g x t) (read ++ parts.Infix x ∷ []) inner)
     where
       by : (c : Bool) → Same (closed d h fs (Joined l g x t)).0 (tree_items (closed d h fs (Joined l g x t)).1) (closed_marks d h (marks_of fs) (read ++ parts.Infix x ∷ [])).0 (closed_marks d h (marks_of fs) (read ++ parts.Infix x ∷ [])).1
-        → Same (if c then closed d h fs (Joined l g x t) else (Left l g x ∷ fs, t)).0 (tree_items (if c then closed d h fs (Joined l g x t) else (Left l g x ∷ fs, t)).1) (if c then closed_marks d h (marks_of fs) (read ++ parts.Infix x ∷ []) else (marks.Infix x ∷ marks_of fs, read)).0 (if c then closed_marks d h (marks_of fs) (read ++ parts.Infix x ∷ []) else (marks.Infix x ∷ marks_of fs, read)).1
+          → Same (if c then closed d h fs (Joined l g x t) else (Left l g x ∷ fs, t)).0 (tree_items (if c then closed d h fs (Joined l g x t) else (Left l g x ∷ fs, t)).1) (if c then closed_marks d h (marks_of fs) (read ++ parts.Infix x ∷ []) else (marks.Infix x ∷ marks_of fs, read)).0 (if c then closed_marks d h (marks_of fs) (read ++ parts.Infix x ∷ []) else (marks.Infix x ∷ marks_of fs, read)).1
       by true more = more
       by false more = s
 
@@ -146,14 +146,14 @@ module _ (text : List ℕ) where
     begin_same : (d : Dialect) (fs : List Frame) (gap : List ℕ) (m : Machine) → Same fs [] m.waiting m.read → Both (Shows (at + 1)) (begin d fs gap b) (begun d at b m)
     begin_same d fs gap m s =
         both_if (Shows (at + 1)) (is_inner b) (Some (InName fs gap (b ∷ []))) (if is_prefix d b then Some (Want (Pending gap b ∷ fs) []) else if b == 40 then Some (Want (Open gap ∷ fs) []) else if (b == 34) && is_liberty d then Some (zip.InQuotes fs gap []) else None)
-          (Some (with_last (modes.Name at) m)) (if is_prefix d b then Some (waiting_for marks.Prefix m) else if b == 40 then Some (waiting_for marks.Open m) else if (b == 34) && is_liberty d then Some (with_last (modes.Quoted (at + 1)) m) else None)
-          (λ e. (at, refl, omega arith, between_start, s)) (λ _.
+        (Some (with_last (modes.Name at) m)) (if is_prefix d b then Some (waiting_for marks.Prefix m) else if b == 40 then Some (waiting_for marks.Open m) else if (b == 34) && is_liberty d then Some (with_last (modes.Quoted (at + 1)) m) else None)
+        (λ e. (at, refl, omega arith, between_start, s)) (λ _.
         both_if (Shows (at + 1)) (is_prefix d b) (Some (Want (Pending gap b ∷ fs) [])) (if b == 40 then Some (Want (Open gap ∷ fs) []) else if (b == 34) && is_liberty d then Some (zip.InQuotes fs gap []) else None)
-          (Some (waiting_for marks.Prefix m)) (if b == 40 then Some (waiting_for marks.Open m) else if (b == 34) && is_liberty d then Some (with_last (modes.Quoted (at + 1)) m) else None)
-          (λ e. (refl, record { waits = ap (λ ms. marks.Prefix ∷ ms) s.waits; inside = s.inside; reads = s.reads })) (λ _.
+        (Some (waiting_for marks.Prefix m)) (if b == 40 then Some (waiting_for marks.Open m) else if (b == 34) && is_liberty d then Some (with_last (modes.Quoted (at + 1)) m) else None)
+        (λ e. (refl, record { waits = ap (λ ms. marks.Prefix ∷ ms) s.waits; inside = s.inside; reads = s.reads })) (λ _.
         both_if (Shows (at + 1)) (b == 40) (Some (Want (Open gap ∷ fs) [])) (if (b == 34) && is_liberty d then Some (zip.InQuotes fs gap []) else None)
-          (Some (waiting_for marks.Open m)) (if (b == 34) && is_liberty d then Some (with_last (modes.Quoted (at + 1)) m) else None)
-          (λ e. (refl, record { waits = ap (λ ms. marks.Open ∷ ms) s.waits; inside = s.inside; reads = s.reads })) (λ _.
+        (Some (waiting_for marks.Open m)) (if (b == 34) && is_liberty d then Some (with_last (modes.Quoted (at + 1)) m) else None)
+        (λ e. (refl, record { waits = ap (λ ms. marks.Open ∷ ms) s.waits; inside = s.inside; reads = s.reads })) (λ _.
         both_if (Shows (at + 1)) ((b == 34) && is_liberty d) (Some (zip.InQuotes fs gap [])) None (Some (with_last (modes.Quoted (at + 1)) m)) None (λ e. (at + 1, refl, omega arith, between_none, s)) (λ _. tt))))
 
     wanting_same : (d : Dialect) (fs : List Frame) (gap : List ℕ) (m : Machine) → Same fs [] m.waiting m.read → Both (Shows (at + 1)) (wanting d fs gap b) (wanted d at b m)
@@ -178,14 +178,14 @@ module _ (text : List ℕ) where
     follow_same : (d : Dialect) (fs : List Frame) (t : Tree) (gap : List ℕ) (spaced : Bool) (m : Machine) → is_filled gap ≡ spaced → Same fs (tree_items t) m.waiting m.read → Both (Shows (at + 1)) (follow d fs t gap b) (followed d at b spaced m)
     follow_same d fs t gap spaced m filled s = subst (λ (x : Bool). Both (Shows (at + 1)) (follow d fs t gap b) (followed d at b x m)) filled (
         both_if (Shows (at + 1)) (is_blank b) (Some (Have fs t (gap ++ b ∷ []))) (if (b == 39) && is_liberty d then Some (Have fs (Postfixed t gap) []) else if b == 41 then shut (closed d 5 fs t) gap else on_sign d fs t gap b (sign_at d b))
-          (Some (with_last (modes.Have true) m)) (if (b == 39) && is_liberty d then Some (with_part parts.Not m) else if b == 41 then shut_in (closed_in d 5 m) else on_sign_in d at b (is_filled gap) m (sign_at d b))
-          (λ e. (ap modes.Have (sym (filled_push gap b)), s)) (λ _.
+        (Some (with_last (modes.Have true) m)) (if (b == 39) && is_liberty d then Some (with_part parts.Not m) else if b == 41 then shut_in (closed_in d 5 m) else on_sign_in d at b (is_filled gap) m (sign_at d b))
+        (λ e. (ap modes.Have (sym (filled_push gap b)), s)) (λ _.
         both_if (Shows (at + 1)) ((b == 39) && is_liberty d) (Some (Have fs (Postfixed t gap) [])) (if b == 41 then shut (closed d 5 fs t) gap else on_sign d fs t gap b (sign_at d b))
-          (Some (with_part parts.Not m)) (if b == 41 then shut_in (closed_in d 5 m) else on_sign_in d at b (is_filled gap) m (sign_at d b))
-          (λ e. (refl, same_push fs (tree_items t) m.waiting m.read parts.Not refl s)) (λ _.
+        (Some (with_part parts.Not m)) (if b == 41 then shut_in (closed_in d 5 m) else on_sign_in d at b (is_filled gap) m (sign_at d b))
+        (λ e. (refl, same_push fs (tree_items t) m.waiting m.read parts.Not refl s)) (λ _.
         both_if (Shows (at + 1)) (b == 41) (shut (closed d 5 fs t) gap) (on_sign d fs t gap b (sign_at d b)) (shut_in (closed_in d 5 m)) (on_sign_in d at b (is_filled gap) m (sign_at d b))
-          (λ e. shut_same (closed d 5 fs t) gap (closed_in d 5 m).waiting (closed_in d 5 m).read (same_closed d 5 fs t m.waiting m.read s))
-          (λ _. on_sign_same d fs t gap m (sign_at d b) s))))
+        (λ e. shut_same (closed d 5 fs t) gap (closed_in d 5 m).waiting (closed_in d 5 m).read (same_closed d 5 fs t m.waiting m.read s))
+        (λ _. on_sign_same d fs t gap m (sign_at d b) s))))
 
     on_longer_same : (d : Dialect) (fs : List Frame) (t : Tree) (gap : List ℕ) (x : Sign) (m : Machine) (o : Option Sign) → Same fs (tree_items t) m.waiting m.read → Both (Shows (at + 1)) (on_longer d fs t gap x b o) (on_longer_in d at b x m o)
     on_longer_same d fs t gap x m (Some l) s = same_signed d l fs t gap (at + 1) m s
@@ -195,14 +195,14 @@ module _ (text : List ℕ) where
     step_same d (Want fs gap) m s = subst (λ (l : mode.Mode). Both (Shows (at + 1)) (wanting d fs gap b) (step_by d at b m l)) (sym s.0) (wanting_same d fs gap m s.1)
     step_same d (InName fs gap run) m s = subst (λ (l : mode.Mode). Both (Shows (at + 1)) (step d (InName fs gap run) b) (step_by d at b m l)) (sym s.1) (
         both_if (Shows (at + 1)) (is_inner b) (Some (InName fs gap (run ++ b ∷ []))) (follow d fs (Plain gap run) [] b) (Some m) (followed d at b false (with_part (parts.Plain s.0 at) m))
-          (λ e. (s.0, s.1, (let low = s.2 in omega arith), between_more s.0 s.2 ∙ ap (λ xs. xs ++ b ∷ []) s.3, s.4))
-          (λ _. follow_same d fs (Plain gap run) [] false (with_part (parts.Plain s.0 at) m) refl (record { waits = s.4.waits; inside = (same_push fs [] m.waiting m.read (parts.Plain s.0 at) (inside_at s.0 s.2) s.4).inside; reads = (same_push fs [] m.waiting m.read (parts.Plain s.0 at) (inside_at s.0 s.2) s.4).reads ∙ ap (λ xs. frames_items fs ++ Bare xs ∷ []) s.3 })))
+        (λ e. (s.0, s.1, (let low = s.2 in omega arith), between_more s.0 s.2 ∙ ap (λ xs. xs ++ b ∷ []) s.3, s.4))
+        (λ _. follow_same d fs (Plain gap run) [] false (with_part (parts.Plain s.0 at) m) refl (record { waits = s.4.waits; inside = (same_push fs [] m.waiting m.read (parts.Plain s.0 at) (inside_at s.0 s.2) s.4).inside; reads = (same_push fs [] m.waiting m.read (parts.Plain s.0 at) (inside_at s.0 s.2) s.4).reads ∙ ap (λ xs. frames_items fs ++ Bare xs ∷ []) s.3 })))
     step_same d (zip.InQuotes fs gap run) m s = subst (λ (l : mode.Mode). Both (Shows (at + 1)) (step d (zip.InQuotes fs gap run) b) (step_by d at b m l)) (sym s.1) (
         both_if (Shows (at + 1)) (is_inner b) (Some (zip.InQuotes fs gap (run ++ b ∷ []))) (if (b == 34) && is_filled run then Some (Have fs (Quoted gap run) []) else None) (Some m) (if (b == 34) && nat_lt s.0 at then Some (with_part (parts.Quoted s.0 at) m) else None)
-          (λ e. (s.0, s.1, (let low = s.2 in omega arith), between_more s.0 s.2 ∙ ap (λ xs. xs ++ b ∷ []) s.3, s.4))
-          (λ _. subst (λ (x : Bool). Both (Shows (at + 1)) (if (b == 34) && is_filled run then Some (Have fs (Quoted gap run) []) else None) (if (b == 34) && x then Some (with_part (parts.Quoted s.0 at) m) else None)) (ap is_filled (sym s.3) ∙ filled_between s.0 s.2)
-            (both_if (Shows (at + 1)) ((b == 34) && is_filled run) (Some (Have fs (Quoted gap run) [])) None (Some (with_part (parts.Quoted s.0 at) m)) None
-              (λ e. (refl, record { waits = s.4.waits; inside = (same_push fs [] m.waiting m.read (parts.Quoted s.0 at) (inside_at s.0 s.2) s.4).inside; reads = (same_push fs [] m.waiting m.read (parts.Quoted s.0 at) (inside_at s.0 s.2) s.4).reads ∙ ap (λ xs. frames_items fs ++ InQuotes xs ∷ []) s.3 })) (λ _. tt))))
+        (λ e. (s.0, s.1, (let low = s.2 in omega arith), between_more s.0 s.2 ∙ ap (λ xs. xs ++ b ∷ []) s.3, s.4))
+        (λ _. subst (λ (x : Bool). Both (Shows (at + 1)) (if (b == 34) && is_filled run then Some (Have fs (Quoted gap run) []) else None) (if (b == 34) && x then Some (with_part (parts.Quoted s.0 at) m) else None)) (ap is_filled (sym s.3) ∙ filled_between s.0 s.2)
+        (both_if (Shows (at + 1)) ((b == 34) && is_filled run) (Some (Have fs (Quoted gap run) [])) None (Some (with_part (parts.Quoted s.0 at) m)) None
+        (λ e. (refl, record { waits = s.4.waits; inside = (same_push fs [] m.waiting m.read (parts.Quoted s.0 at) (inside_at s.0 s.2) s.4).inside; reads = (same_push fs [] m.waiting m.read (parts.Quoted s.0 at) (inside_at s.0 s.2) s.4).reads ∙ ap (λ xs. frames_items fs ++ InQuotes xs ∷ []) s.3 })) (λ _. tt))))
     step_same d (Have fs t gap) m s = subst (λ (l : mode.Mode). Both (Shows (at + 1)) (step d (Have fs t gap) b) (step_by d at b m l)) (sym s.0) (follow_same d fs t gap (is_filled gap) m refl s.1)
     step_same d (Half fs t gap x) m s = subst (λ (l : mode.Mode). Both (Shows (at + 1)) (step d (Half fs t gap x) b) (step_by d at b m l)) (sym s.0) (on_longer_same d fs t gap x m (longer d x b) s.1)
 

@@ -1,10 +1,10 @@
 -- What an expression that was read stands for: a formula over the names of a table (own rule).
-use Rattle.std.specs.Prelude.{◌≡◌, ℕ, ◌+◌, ◌≤◌, ◌<◌, Bool, true, false, List, [], ◌∷◌, ◌++◌, length, map, fold, unwrap_or, IsTrue, nat_lt, bytes_eq, if◌then◌else◌, Option, Some, None}
+use Rattle.std.specs.Prelude.{◌≡◌, ℕ, ◌+◌, ◌≤◌, Bool, true, false, List, [], ◌∷◌, length, map, fold, unwrap_or, IsTrue, nat_lt, bytes_eq, if◌then◌else◌, Option, Some, None}
 use Rattle.std.specs.List.{list_all, flat_map}
 use Rattle.std.specs.Global.{Vec}
 use Rattle.lp_text.specs.declared.names.NameId.{NameId}
 use Rattle.lp_text.specs.Texts.{text_at, with_text, place_of, same_text, Grown}
-use Rattle.lp_tern.specs.Expression.{Expression, Variable, Constant, variables}
+use Rattle.lp_tern.specs.Expression.{Expression, variables}
 use Rattle.lp_expr.specs.declared.dialect.Dialect.{Dialect}
 use Rattle.lp_expr.specs.declared.dialect.Sign.{Sign}
 use Rattle.lp_expr.specs.declared.dialect.Sign.TheVariants as signs
@@ -68,6 +68,9 @@ is_named (InQuotes n) = is_name n
 is_named Negated = true
 is_named (Joint s) = true
 
+abbrev pub are_named : List ℕ → List part.Part → Bool
+are_named text parts = list_all (λ p. is_named (item_of text p)) parts
+
 abbrev pub operation : Sign → Step
 operation signs.Caret = steps.Xor
 operation signs.Star = steps.And
@@ -84,6 +87,9 @@ item_step texts (Bare n) = if bytes_eq n (48 ∷ []) then steps.Constant false e
 item_step texts (InQuotes n) = steps.Variable (number_in texts n)
 item_step texts Negated = steps.Not
 item_step texts (Joint s) = operation s
+
+abbrev pub parts_steps : List (List ℕ) → List ℕ → List part.Part → List Step
+parts_steps texts text parts = map (λ p. item_step texts (item_of text p)) parts
 
 -- ---- variables, one by one
 

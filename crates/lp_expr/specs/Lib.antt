@@ -1,8 +1,12 @@
+pub mod Answers
 pub mod Denotes
 pub mod Formula
 pub mod Grammar
 pub mod Machine
 pub mod Parts
+pub mod Places
 pub mod Postfix
 pub mod Reading
+pub mod Replaces
 pub mod Signs
+pub mod Table

@@ -39,8 +39,11 @@ is_within size (parts.Quoted from to) = nat_le from to && nat_le to size
 is_within size parts.Not = true
 is_within size (parts.Infix s) = true
 
+abbrev pub are_within : List ℕ → List part.Part → Bool
+are_within text read = list_all (is_within (length text)) read
+
 -- the parts are those of the expression that the text is
 pub record ReadsParts (d : Dialect) (text : List ℕ) (read : List part.Part) : Type 0 where
-  pub within : IsTrue (list_all (is_within (length text)) read)
+  pub within : IsTrue (are_within text read)
   pub spells : Spells d text
   pub same : map (item_of text) read ≡ tree_items spells.tree

@@ -3,7 +3,7 @@ use Rattle.std.specs.Prelude.{ℕ, ◌==◌, Bool, true, false, Option, Some, No
 use Rattle.lp_expr.specs.declared.dialect.Dialect.{Dialect}
 use Rattle.lp_expr.specs.declared.dialect.Dialect.TheVariants.{Liberty, Control}
 use Rattle.lp_expr.specs.declared.dialect.Sign.{Sign}
-use Rattle.lp_expr.specs.declared.dialect.Sign.TheVariants.{Caret, Star, Ampersand, Gap, Plus, Bar, TwoAmpersands, TwoBars}
+use Rattle.lp_expr.specs.declared.dialect.Sign.TheVariants.{Caret, Star, Ampersand, Plus, Bar, TwoAmpersands, TwoBars}
 
 -- the sign that begins with a byte: the shorter one where there are two
 abbrev pub sign_at : Dialect → ℕ → Option Sign

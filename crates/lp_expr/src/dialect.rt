@@ -1,6 +1,6 @@
 /// Whose expressions a text has.
 #[derive(Clone, Copy, Debug, PartialEq, Eq)]
-pub(crate) enum Dialect {
+pub enum Dialect {
     /// Attributes of Liberty groups.
     Liberty,
     /// Control expressions of UPF commands.

@@ -1,10 +1,10 @@
-ghost use Rattle.std.specs.Prelude.{◌≡◌, [], ◌∷◌, Some, ◌+◌, ◌<◌, ◌≤◌, length, map, false, IsTrue, IfOk, OnErr, MatchBool, MatchOption, vec_len, OnOk, take, drop, ◌-◌, nat_le, ◌&&◌};
-ghost use Rattle.std.specs.List.{list_all};
+ghost use Rattle.std.specs.Prelude.{◌≡◌, [], ◌∷◌, Some, IfSome, ◌+◌, ◌<◌, ◌≤◌, length, map, false, IsTrue, IfOk, OnErr, MatchBool, MatchOption, vec_len, OnOk, take, drop, ◌-◌, nat_le, ◌&&◌};
 ghost use Rattle.std.specs.Option.{option_copied, option_map, option_to_list};
 ghost use Rattle.lp_text.specs.Texts.{Grown, has_text, place_of, with_text};
 ghost use Rattle.lp_expr.specs.Grammar.{is_name};
-ghost use Rattle.lp_expr.specs.Parts.{between, item_of, is_within};
-ghost use Rattle.lp_expr.specs.Denotes.{texts_of, are_below, place_from, Noted, Overflows, Collected, firsts, parts_names, is_named, constant_of, item_names, item_step, number_in, operation};
+ghost use Rattle.lp_expr.specs.Parts.{between, item_of, is_within, are_within};
+ghost use Rattle.lp_expr.specs.Denotes.{texts_of, are_below, place_from, Noted, Overflows, Collected, firsts, parts_names, is_named, are_named, parts_steps, constant_of, item_names, item_step, number_in, operation};
+ghost use Rattle.lp_expr.specs.declared.step.Step.TheVariants.{Variable};
 
 use crate::dialect::{Part, Sign};
 use crate::step::Step;
@@ -17,7 +17,8 @@ const MOST: usize = 12;
 /// Where a name stands among some names of a table.
 fn find_among(names: &Names, ids: &[NameId], name: &str) -> Option<usize>
     requires { IsTrue (are_below (length names.now) ids.now) }
-    ensures { result ≡ place_from 0 name.now (texts_of names.now ids.now) }
+    ensures place { result ≡ place_from 0 name.now (texts_of names.now ids.now) }
+    ensures within { IfSome result (λ place. place < length ids.now) }
 {
     for (place, id) in ids.iter().enumerate() {
         if name == names.text(*id) {
@@ -92,7 +93,11 @@ fn part_name(text: &[u8], part: Part) -> Option<&str>
     match part {
         Part::Plain(from, to) => {
             let name = name_of(text, from, to);
-            if constant(name).is_some() { None } else { Some(name) }
+            if constant(name).is_some() {
+                None
+            } else {
+                Some(name)
+            }
         }
         Part::Quoted(from, to) => Some(name_of(text, from, to)),
         Part::Not | Part::Infix(_) => None,
@@ -100,7 +105,12 @@ fn part_name(text: &[u8], part: Part) -> Option<&str>
 }
 
 /// Counts the name of a part among the variables, if it has one and that is not the 13th.
-fn note_part(names: &mut Names, ids: &mut Vec<NameId>, text: &[u8], part: Part) -> Result<bool, NoMemory>
+fn note_part(
+    names: &mut Names,
+    ids: &mut Vec<NameId>,
+    text: &[u8],
+    part: Part,
+) -> Result<bool, NoMemory>
     requires room { length names.old ≤ 4294967283 + vec_len ids.old }
     requires below { IsTrue (are_below (length names.old) ids.old.items) }
     requires few { vec_len ids.old ≤ 12 }
@@ -118,10 +128,15 @@ fn note_part(names: &mut Names, ids: &mut Vec<NameId>, text: &[u8], part: Part) 
 }
 
 /// The variables of all parts, in the order in which they first occur; none where they are 13 or more.
-pub(crate) fn collect(alloc: Global, names: &mut Names, text: &[u8], parts: &[Part]) -> Result<Option<Vec<NameId>>, NoMemory>
+pub(crate) fn collect(
+    alloc: Global,
+    names: &mut Names,
+    text: &[u8],
+    parts: &[Part],
+) -> Result<Option<Vec<NameId>>, NoMemory>
     requires room { length names.old ≤ 4294967283 }
-    requires within { IsTrue (list_all (is_within (length text.now)) parts.now) }
-    requires named { IsTrue (list_all (λ p. is_named (item_of text.now p)) parts.now) }
+    requires within { IsTrue (are_within text.now parts.now) }
+    requires named { IsTrue (are_named text.now parts.now) }
     ensures ok { IfOk result (Collected names.new (parts_names text.now parts.now)) }
     ensures grown { Grown names.old names.new }
     ensures few { length names.new ≤ length names.old + 12 }
@@ -134,4 +149,66 @@ pub(crate) fn collect(alloc: Global, names: &mut Names, text: &[u8], parts: &[Pa
         }
     }
     Ok(Some(ids))
+}
+
+/// The variable of a name among some.
+fn variable(names: &Names, ids: &[NameId], name: &str) -> Step
+    requires below { IsTrue (are_below (length names.now) ids.now) }
+    requires few { length ids.now ≤ 12 }
+    ensures { result ≡ Variable (number_in (texts_of names.now ids.now) name.now) }
+{
+    Step::Variable(find_among(names, ids, name).unwrap_or(0) as u8)
+}
+
+fn operation_of(sign: Sign) -> Step
+    ensures { result ≡ operation sign }
+{
+    match sign {
+        Sign::Star | Sign::Ampersand | Sign::Gap | Sign::TwoAmpersands => Step::And,
+        Sign::Plus | Sign::Bar | Sign::TwoBars => Step::Or,
+        Sign::Caret => Step::Xor,
+    }
+}
+
+/// The step of a part.
+fn step_of(names: &Names, ids: &[NameId], text: &[u8], part: Part) -> Step
+    requires below { IsTrue (are_below (length names.now) ids.now) }
+    requires few { length ids.now ≤ 12 }
+    requires within { IsTrue (is_within (length text.now) part) }
+    requires named { IsTrue (is_named (item_of text.now part)) }
+    ensures { result ≡ item_step (texts_of names.now ids.now) (item_of text.now part) }
+{
+    match part {
+        Part::Plain(from, to) => {
+            let name = name_of(text, from, to);
+            match constant(name) {
+                Some(value) => Step::Constant(value),
+                None => variable(names, ids, name),
+            }
+        }
+        Part::Quoted(from, to) => variable(names, ids, name_of(text, from, to)),
+        Part::Not => Step::Not,
+        Part::Infix(sign) => operation_of(sign),
+    }
+}
+
+/// The steps of the parts, over these variables.
+pub(crate) fn steps_of(
+    alloc: Global,
+    names: &Names,
+    ids: &[NameId],
+    text: &[u8],
+    parts: &[Part],
+) -> Result<Vec<Step>, NoMemory>
+    requires below { IsTrue (are_below (length names.now) ids.now) }
+    requires few { length ids.now ≤ 12 }
+    requires within { IsTrue (are_within text.now parts.now) }
+    requires named { IsTrue (are_named text.now parts.now) }
+    ensures { IfOk result (λ steps. steps.items ≡ parts_steps (texts_of names.now ids.now) text.now parts.now) }
+{
+    let mut steps = Vec::new(alloc);
+    for part in parts {
+        steps.push(step_of(names, ids, text, *part))?;
+    }
+    Ok(steps)
 }

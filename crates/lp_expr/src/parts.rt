@@ -1,6 +1,7 @@
-ghost use Rattle.std.specs.Prelude.{◌≤◌, length, IfOk, IfErr};
+ghost use Rattle.std.specs.Prelude.{◌≤◌, length, IfOk, IfErr, IsTrue};
 ghost use Rattle.lp_expr.specs.Machine.{read_in, start};
-ghost use Rattle.lp_expr.specs.Parts.{ReadsParts};
+ghost use Rattle.lp_expr.specs.Parts.{ReadsParts, are_within};
+ghost use Rattle.lp_expr.specs.Denotes.{are_named};
 ghost use Rattle.lp_expr.specs.Reading.{IsReading, LeavesAt};
 
 use crate::dialect::{Dialect, Part};
@@ -46,9 +47,16 @@ fn run(alloc: Global, dialect: Dialect, text: &[u8]) -> Result<Vec<Part>, PartsF
 }
 
 /// The parts of an expression, in postfix order, or the place at which the text leaves the language.
-pub(crate) fn parts_of(alloc: Global, dialect: Dialect, text: &[u8]) -> Result<Vec<Part>, PartsFault>
+pub(crate) fn parts_of(
+    alloc: Global,
+    dialect: Dialect,
+    text: &[u8],
+) -> Result<Vec<Part>, PartsFault>
     requires { length text.now ≤ 67108864 }
     ensures ok { IfOk result (λ parts. ReadsParts dialect text.now parts.items) }
+    ensures within { IfOk result (λ parts. IsTrue (are_within text.now parts.items)) }
+    ensures named { IfOk result (λ parts. IsTrue (are_named text.now parts.items)) }
+    ensures few { IfOk result (λ parts. length parts.items ≤ length text.now) }
     ensures err { IfErr result (LeavesAt dialect text.now) }
 {
     run(alloc, dialect, text)

@@ -79,7 +79,9 @@ impl Reader {
     {
         match self.waiting.top() {
             Some(Mark::Prefix) => Some(Part::Not),
-            Some(Mark::Infix(sign)) if dialect.looseness(sign) <= loosest => Some(Part::Infix(sign)),
+            Some(Mark::Infix(sign)) if dialect.looseness(sign) <= loosest => Some(Part::Infix(
+                sign,
+            )),
             _ => None,
         }
     }
@@ -147,7 +149,14 @@ impl Reader {
     }
 
     /// What is no blank, complement or parenthesis behind an operand.
-    fn follow_sign(&mut self, dialect: Dialect, at: usize, byte: u8, spaced: bool, sign: Option<Sign>) -> Result<bool, NoMemory>
+    fn follow_sign(
+        &mut self,
+        dialect: Dialect,
+        at: usize,
+        byte: u8,
+        spaced: bool,
+        sign: Option<Sign>,
+    ) -> Result<bool, NoMemory>
         requires { at < 67108864 }
         ensures { IfOk result (λ taken. on_sign_in dialect at byte spaced self.old sign ≡ (if taken then Some self.new else None)) }
     {
@@ -171,7 +180,13 @@ impl Reader {
     }
 
     /// A byte behind an operand.
-    fn follow(&mut self, dialect: Dialect, at: usize, byte: u8, spaced: bool) -> Result<bool, NoMemory>
+    fn follow(
+        &mut self,
+        dialect: Dialect,
+        at: usize,
+        byte: u8,
+        spaced: bool,
+    ) -> Result<bool, NoMemory>
         requires { at < 67108864 }
         ensures { IfOk result (λ taken. followed dialect at byte spaced self.old ≡ (if taken then Some self.new else None)) }
     {
@@ -191,7 +206,14 @@ impl Reader {
     }
 
     /// A byte right behind a sign that may go on.
-    fn follow_half(&mut self, dialect: Dialect, at: usize, byte: u8, sign: Sign, longer: Option<Sign>) -> Result<bool, NoMemory>
+    fn follow_half(
+        &mut self,
+        dialect: Dialect,
+        at: usize,
+        byte: u8,
+        sign: Sign,
+        longer: Option<Sign>,
+    ) -> Result<bool, NoMemory>
         requires { at < 67108864 }
         ensures { IfOk result (λ taken. on_longer_in dialect at byte sign self.old longer ≡ (if taken then Some self.new else None)) }
     {
@@ -232,12 +254,22 @@ impl Reader {
                 Ok(false)
             }
             Mode::Have(spaced) => self.follow(dialect, at, byte, spaced),
-            Mode::Half(sign) => self.follow_half(dialect, at, byte, sign, dialect.longer(sign, byte)),
+            Mode::Half(sign) => self.follow_half(
+                dialect,
+                at,
+                byte,
+                sign,
+                dialect.longer(sign, byte),
+            ),
         }
     }
 
     /// The parts in postfix order, none where the text may not end here.
-    pub(crate) fn finish(mut self, dialect: Dialect, at: usize) -> Result<Option<Vec<Part>>, NoMemory>
+    pub(crate) fn finish(
+        mut self,
+        dialect: Dialect,
+        at: usize,
+    ) -> Result<Option<Vec<Part>>, NoMemory>
         ensures { IfOk result (λ parts. finished dialect at self ≡ option_map (λ v. v.items) parts) }
     {
         match self.last {

@@ -1,5 +1,6 @@
 pub mod Agreement
 pub mod Bits
+pub mod Chains
 pub mod CommandsView
 pub mod FaultLines
 pub mod FaultWords

@@ -18,7 +18,7 @@ pub enum Bit {
 }
 
 /// Where bits stand.
-#[derive(Debug, Drop)]
+#[derive(Drop)]
 enum Held {
     /// No bit.
     Nothing,
@@ -31,7 +31,7 @@ enum Held {
 /// The bits of a value, the most significant first: contracts see their list.
 ///
 /// It takes 16 bytes, and up to one bit takes no memory of its own.
-#[derive(Debug, Drop)]
+#[derive(Drop)]
 pub struct Bits {
     held: Held,
 }

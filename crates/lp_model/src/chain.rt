@@ -9,7 +9,7 @@ use std::alloc::Global;
 use std::marker::Model;
 
 /// What an operator does to the value that passes it.
-#[derive(Clone, Copy, Debug, PartialEq, Eq)]
+#[derive(Clone, Copy)]
 pub enum Passage {
     /// It holds the value at a constant while its control is active (IEEE 1801-2015 set_isolation).
     Clamp {
@@ -26,7 +26,7 @@ pub enum Passage {
 }
 
 /// A clamp or a shifter at a boundary bit. It takes 20 bytes.
-#[derive(Clone, Copy, Debug)]
+#[derive(Clone, Copy)]
 pub struct Operator {
     /// What it does.
     pub passage: Passage,
@@ -39,6 +39,12 @@ pub struct Operator {
 }
 
 impl Default for Operator {
+    ghost use Rattle.std.specs.Prelude.{◌≡◌};
+    ghost use Rattle.lp_model.specs.Chains.{blank};
+
+    ghost is_default = { λ o. o ≡ blank };
+
+    /// What stands at the places of a chain that no operator takes.
     fn default() -> Operator {
         Operator {
             passage: Passage::Clamp { supply: SetId(0) },
@@ -93,7 +99,7 @@ impl Chain {
 }
 
 /// The winners of one kind at a boundary bit.
-#[derive(Clone, Copy, Debug)]
+#[derive(Clone, Copy)]
 pub struct SideWinners {
     /// On the upper side, if any.
     pub upper: StrategySlot,

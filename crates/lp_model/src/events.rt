@@ -3,7 +3,7 @@ use lp_tern::{SupplyState, Tern};
 use sqlite_items::Items;
 
 /// A new value of an input bit.
-#[derive(Clone, Copy, Debug)]
+#[derive(Clone, Copy)]
 pub struct InputChange {
     /// The bit: counts the bits of the inputs of events from 0, in port order.
     pub bit: u32,
@@ -12,7 +12,7 @@ pub struct InputChange {
 }
 
 /// A new state of a port origin.
-#[derive(Clone, Copy, Debug)]
+#[derive(Clone, Copy)]
 pub struct SupplyChange {
     /// The origin.
     pub origin: OriginId,
@@ -30,7 +30,7 @@ pub struct Event {
 }
 
 /// The states with which a register begins.
-#[derive(Clone, Copy, Debug)]
+#[derive(Clone, Copy)]
 pub struct RegInit {
     /// The register.
     pub leaf: LeafId,
@@ -57,7 +57,7 @@ pub struct Trace {
 }
 
 /// The nodes of a netlist that supply the outer side of a top port.
-#[derive(Clone, Copy, Debug)]
+#[derive(Clone, Copy)]
 pub struct SupplyNodes {
     /// The node of the power.
     pub power: NodeId,

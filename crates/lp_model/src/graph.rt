@@ -31,7 +31,7 @@ pub enum NodeName {
 #[derive(Clone, Copy, Debug, PartialEq, Eq)]
 pub enum Source {
     /// Nothing: its value is unknown.
-    None,
+    Nothing,
     /// The environment, for the outer side of a top input.
     Env,
     /// An output of a cell instance. The pin counts the cell's signal pins and after them its pg_pins, for
@@ -47,7 +47,7 @@ pub enum Source {
 }
 
 /// A net bit of a module instance. It takes 24 bytes.
-#[derive(Clone, Copy, Debug)]
+#[derive(Clone, Copy)]
 pub struct Node {
     /// The instance.
     pub inst: InstId,
@@ -58,7 +58,7 @@ pub struct Node {
 }
 
 /// What an edge comes from. It takes 8 bytes.
-#[derive(Clone, Copy, Debug, PartialEq, Eq)]
+#[derive(Clone, Copy)]
 pub enum EdgeFrom {
     /// A node.
     Node(NodeId),
@@ -76,7 +76,7 @@ pub enum EdgeKind {
 }
 
 /// A way for a value from one place to a node. It takes 16 bytes.
-#[derive(Clone, Copy, Debug)]
+#[derive(Clone, Copy)]
 pub struct Edge {
     /// Where it begins.
     pub from: EdgeFrom,
@@ -98,7 +98,7 @@ pub enum PinNet {
 }
 
 /// A cell instance. It takes 16 bytes.
-#[derive(Clone, Copy, Debug)]
+#[derive(Clone, Copy)]
 pub struct Leaf {
     /// The module instance in which it stands.
     pub inst: InstId,
@@ -111,7 +111,7 @@ pub struct Leaf {
 }
 
 /// A module instance. It takes 16 bytes.
-#[derive(Clone, Copy, Debug)]
+#[derive(Clone, Copy)]
 pub struct Inst {
     /// The instance's name; of the top its module's name.
     pub name: NameId,

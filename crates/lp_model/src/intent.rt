@@ -29,7 +29,7 @@ pub struct Domain {
 }
 
 /// How a supply set is named.
-#[derive(Clone, Copy, Debug, PartialEq, Eq)]
+#[derive(Clone, Copy)]
 pub enum SetName {
     /// By create_supply_set.
     Made(ScopedName),
@@ -39,7 +39,7 @@ pub enum SetName {
 
 /// A supply set (IEEE 1801-2015 create_supply_set and set_domain_supply_net). A function is a supply net, by
 /// its place in the list of supply nets; none where it is not given.
-#[derive(Clone, Copy, Debug)]
+#[derive(Clone, Copy)]
 pub struct SupplySet {
     /// Its name.
     pub name: SetName,
@@ -85,7 +85,7 @@ pub struct SupplyPort {
 }
 
 /// A supply net (IEEE 1801-2015 create_supply_net).
-#[derive(Clone, Copy, Debug)]
+#[derive(Clone, Copy)]
 pub struct SupplyNet {
     /// Its name, with its scope.
     pub name: ScopedName,
@@ -115,7 +115,7 @@ pub struct PowerSwitch {
 }
 
 /// What a row of the state table gives a supply. It takes 16 bytes.
-#[derive(Clone, Copy, Debug, PartialEq, Eq)]
+#[derive(Clone, Copy)]
 pub enum RowState {
     /// Nothing: any declared state, as for `*`.
     Free,
@@ -126,7 +126,7 @@ pub enum RowState {
 }
 
 /// A column of the state table: the supply that an add_pst_state gives a state to (IEEE 1801-2015 create_pst).
-#[derive(Clone, Copy, Debug, PartialEq, Eq)]
+#[derive(Clone, Copy)]
 pub enum ListedSupply {
     /// A supply port, by its place in the list of supply ports.
     Port(u32),
@@ -144,7 +144,7 @@ pub struct TableRow {
 }
 
 /// The supplies of a top port (IEEE 1801-2015 set_port_attributes).
-#[derive(Clone, Copy, Debug)]
+#[derive(Clone, Copy)]
 pub struct PortAttribute {
     /// The port: counts the ports of the top module from 0.
     pub port: u32,
@@ -202,7 +202,7 @@ pub enum Applies {
 }
 
 /// What `-source` or `-sink` of a strategy names.
-#[derive(Clone, Copy, Debug, PartialEq, Eq)]
+#[derive(Clone, Copy)]
 pub enum SetOrDomain {
     /// A supply set.
     Set(SetId),

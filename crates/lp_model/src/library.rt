@@ -153,7 +153,7 @@ pub enum ShifterKind {
 }
 
 /// Voltages in microvolts, both ends included, each at most 10^12.
-#[derive(Clone, Copy, Debug, PartialEq, Eq)]
+#[derive(Clone, Copy)]
 pub struct VoltageRange {
     /// The lowest.
     pub low: u64,
@@ -162,7 +162,7 @@ pub struct VoltageRange {
 }
 
 /// A level shifter's type and ranges (Liberty `is_level_shifter`).
-#[derive(Clone, Copy, Debug)]
+#[derive(Clone, Copy)]
 pub struct Shifter {
     /// Liberty `input_voltage_range`; every voltage where it is missing.
     pub input: Option<VoltageRange>,

@@ -21,7 +21,7 @@ pub struct BitRange {
 }
 
 /// A port of a module (IEEE 1364-2005, port declarations).
-#[derive(Clone, Copy, Debug)]
+#[derive(Clone, Copy)]
 pub struct Port {
     /// The port's name, which is its net's too.
     pub name: NameId,
@@ -32,7 +32,7 @@ pub struct Port {
 }
 
 /// A net of a module that is no port (IEEE 1364-2005, net declarations).
-#[derive(Clone, Copy, Debug)]
+#[derive(Clone, Copy)]
 pub struct NetDecl {
     /// The net's name.
     pub name: NameId,

@@ -3,7 +3,7 @@ use crate::side::{Location, Side};
 use sqlite_items::Items;
 
 /// A cell that is inserted, or that takes another one's place.
-#[derive(Clone, Copy, Debug)]
+#[derive(Clone, Copy)]
 pub enum Insertion {
     /// A clamp (IEEE 1801-2015 set_isolation).
     Iso {
@@ -89,7 +89,7 @@ pub enum AddedKind {
 }
 
 /// A clamp and a shifter that one cell stands for (own rule).
-#[derive(Clone, Copy, Debug)]
+#[derive(Clone, Copy)]
 pub struct Pair {
     /// The plan entry that comes first in the flow of data.
     pub first: u32,

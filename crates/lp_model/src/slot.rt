@@ -4,7 +4,7 @@ ghost use Rattle.lp_model.specs.Slots.{set_in, strategy_in};
 use crate::ids::{SetId, StrategyId};
 
 /// A supply set or none, in 4 bytes: no set has the number 2^32 - 1.
-#[derive(Clone, Copy, Debug)]
+#[derive(Clone, Copy)]
 pub struct SetSlot {
     number: u32,
 }
@@ -34,7 +34,7 @@ impl SetSlot {
 }
 
 /// A strategy or none, in 4 bytes: no strategy has the number 2^32 - 1.
-#[derive(Clone, Copy, Debug)]
+#[derive(Clone, Copy)]
 pub struct StrategySlot {
     number: u32,
 }

@@ -30,7 +30,7 @@ pub struct Origin {
 }
 
 /// The origins of the functions of a supply set (IEEE 1801-2015 create_supply_set).
-#[derive(Clone, Copy, Debug)]
+#[derive(Clone, Copy)]
 pub struct SetOrigins {
     /// power
     pub power: OriginId,

@@ -2,7 +2,7 @@ use lp_text::{NameId, Place};
 use sqlite_items::Items;
 
 /// How a word is written (IEEE 1801-2015, Tcl words).
-#[derive(Clone, Copy, Debug, PartialEq, Eq)]
+#[derive(Clone, Copy)]
 pub enum WordForm {
     /// Without braces or quotes.
     Bare,
@@ -13,7 +13,7 @@ pub enum WordForm {
 }
 
 /// A word of a UPF text. It takes 16 bytes.
-#[derive(Clone, Copy, Debug)]
+#[derive(Clone, Copy)]
 pub struct UpfWord {
     /// What it says, without its braces or quotes.
     pub name: NameId,

@@ -1,4 +1,5 @@
 -- Where a text leaves a language (own rule).
+use Rattle.std.proofs.lemmas.List.{take-append-drop}
 use Rattle.std.proofs.Common.{◌≡◌, ℕ, zero, suc, ◌+◌, ◌-◌, ◌<◌, ◌≤◌, ◌⊎◌, List, [], ◌∷◌, ◌++◌, length, take, drop, refl, sym, ap, ◌∙◌, subst, inl, inr, arith, append_assoc}
 
 -- the text up to the place can go on to a text of the language; with the token at the place it cannot; a text that ends at the place is none itself
@@ -38,3 +39,11 @@ module _ {T : Type 0} where
       compare_cases zero (suc b) = inl (omega arith)
       compare_cases (suc a) zero = inr (inr (omega arith))
       compare_cases (suc a) (suc b) = elim (compare_cases a b) [ inl less ↦ inl (omega arith) | inr others ↦ elim others [ inl same ↦ inr (inl (ap suc same)) | inr more ↦ inr (inr (omega arith)) ] ]
+
+  -- a text that leaves a language is none of its texts
+  pub leaves_none : (language : List T → Type 0) (text : List T) (p : ℕ) → Leaves T language text p → language text → ⊥
+  leaves_none language text p leaves h = by (drop p text) refl
+    where
+      by : (back : List T) → drop p text ≡ back → ⊥
+      by [] e = leaves.ended e h
+      by (t ∷ after) e = leaves.here t after e after (subst language (sym (take-append-drop p text) ∙ ap (λ xs. take p text ++ xs) e) h)

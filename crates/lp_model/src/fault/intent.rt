@@ -4,7 +4,7 @@ ghost use Rattle.lp_model.specs.FaultWords.{intent_fault_word, intent_limit_numb
 use lp_text::{NameId, Place};
 
 /// What a power intent has too much of.
-#[derive(Clone, Copy, Debug, PartialEq, Eq)]
+#[derive(Clone, Copy, Debug)]
 pub enum IntentLimit {
     /// Bytes of the text: 67,108,864.
     Bytes,
@@ -31,7 +31,7 @@ impl IntentLimit {
 }
 
 /// What is loaded too much of.
-#[derive(Clone, Copy, Debug, PartialEq, Eq)]
+#[derive(Clone, Copy, Debug)]
 pub enum LoadLimit {
     /// Files: 256.
     Loads,

@@ -1,10 +1,10 @@
-use Rattle.std.proofs.Common.{◌≡◌, ◌+◌, ap, sym, ◌∙◌, get_or, drop, length, Bool, MatchBool, true, false}
+use Rattle.std.proofs.Common.{◌≡◌, ◌+◌, ap, sym, ◌∙◌, get_or, drop, Bool, MatchBool, true, false}
 use Rattle.std.specs.Prelude.{fold}
 use Rattle.std.proofs.lemmas.List.{drop_more}
 use Rattle.lp_text.specs.Texts.{with_text}
 use Rattle.lp_expr.specs.declared.dialect.Part.TheVariants as parts
 use Rattle.lp_expr.specs.Parts.{item_of}
-use Rattle.lp_expr.specs.Denotes.{texts_of, firsts, parts_names, item_names, Noted, Overflows}
+use Rattle.lp_expr.specs.Denotes.{texts_of, firsts, parts_names, item_names}
 use Rattle.lp_expr.proofs.Numbers.{overflows_all}
 use Rattle.lp_expr.proofs.number.collect.Goals as goal
 

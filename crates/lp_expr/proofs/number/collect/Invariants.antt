@@ -1,9 +1,7 @@
 use Rattle.std.proofs.Common.{◌≡◌, ◌+◌, ◌≤◌, length, drop}
-use Rattle.std.specs.Prelude.{IsTrue, fold, vec_len}
-use Rattle.std.specs.List.{list_all}
+use Rattle.std.specs.Prelude.{IsTrue, fold}
 use Rattle.lp_text.specs.Texts.{Grown, with_text}
-use Rattle.lp_expr.specs.Parts.{item_of, is_within}
-use Rattle.lp_expr.specs.Denotes.{texts_of, are_below, firsts, parts_names, is_named}
+use Rattle.lp_expr.specs.Denotes.{texts_of, are_below, firsts, parts_names}
 use Rattle.lp_expr.proofs.number.collect.Given as goal
 
 abbrev pub invariant-loop-part : goal.invariant-loop-part
@@ -13,5 +11,5 @@ invariant-loop-part l = record {
   few : length l.ids.items ≤ 12;
   counted : length l.ids.items ≤ l.part-index;
   paid : length l.names ≤ length l.fn.names + length l.ids.items;
-  grown : Grown l.fn.names l.names
+  grown : Grown l.fn.names l.names;
 }

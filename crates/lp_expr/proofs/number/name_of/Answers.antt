@@ -1,11 +1,11 @@
-use Rattle.std.proofs.Common.{◌≡◌, ℕ, ◌<◌, ◌≤◌, ◌&&◌, true, List, [], ◌∷◌, Result, Ok, Err, refl, sym, subst, arith}
-use Rattle.std.specs.Prelude.{IsTrue, IsOk, IfErr, MatchResult, nat_le}
+use Rattle.std.proofs.Common.{◌≡◌, ℕ, ◌<◌, true, List, [], ◌∷◌, Result, Ok, Err, refl, arith}
+use Rattle.std.specs.Prelude.{IsTrue, IsOk, MatchResult}
 use Rattle.std.specs.List.{list_all}
-use Rattle.std.specs.Str.{IsUtf8, IsAscii}
+use Rattle.std.specs.Str.{IsAscii}
 use Rattle.std.proofs.lemmas.Bool.Decides.{nat_tests}
 use Rattle.std.proofs.lemmas.Str.{IsUtf8-from_ascii}
 use Rattle.std.proofs.lemmas.Str.Ascii.{IsAscii-nil, IsAscii-cons}
-use Rattle.lp_expr.specs.Grammar.{is_inner, is_name, is_filled}
+use Rattle.lp_expr.specs.Grammar.{is_inner, is_filled}
 use Rattle.lp_expr.specs.Parts.{between}
 use Rattle.lp_expr.proofs.Found.{conj_left, conj_right}
 use Rattle.lp_expr.proofs.number.name_of.Goals as goal

@@ -1,13 +1,13 @@
-use Rattle.std.proofs.Common.{◌≡◌, ◌≤◌, ◌+◌, true, false, length, sym, ap, ◌∙◌, subst, refl, arith, vec_len, [], ◌∷◌, ◌++◌}
+use Rattle.std.proofs.Common.{◌≡◌, length, sym, ap, ◌∙◌, subst, arith, vec_len, [], ◌∷◌}
 use Rattle.std.specs.Prelude.{is_some}
 use Rattle.lp_text.specs.Texts.{has_text}
-use Rattle.lp_expr.specs.Denotes.{texts_of, Noted, place_from}
+use Rattle.lp_expr.specs.Denotes.{texts_of, Noted}
 use Rattle.lp_expr.proofs.Numbers.{is_some-place_from, noted_again, noted_new, overflow_new}
 use Rattle.lp_expr.proofs.number.note.Goals as goal
 use Rattle.lp_expr.proofs.number.note.Goals.{After-is_some}
 
 there : (c : After-is_some) → c.is_some.result ≡ has_text c.args.name.now (texts_of c.args.names.now c.args.ids.now.items)
-there c = c.is_some.ensures ∙ ap is_some c.find_among.ensures ∙ is_some-place_from 0 c.args.name.now (texts_of c.args.names.now c.deref.result.now) ∙ ap (λ ids. has_text c.args.name.now (texts_of c.args.names.now ids)) c.deref.ensures.value
+there c = c.is_some.ensures ∙ ap is_some c.find_among.ensures.place ∙ is_some-place_from 0 c.args.name.now (texts_of c.args.names.now c.deref.result.now) ∙ ap (λ ids. has_text c.args.name.now (texts_of c.args.names.now ids)) c.deref.ensures.value
 
 size : (c : After-is_some) → length c.args.ids.now.items ≡ vec_len c.args.ids.now
 size c = ap length (sym c.deref.ensures.value) ∙ c.deref.ensures.len

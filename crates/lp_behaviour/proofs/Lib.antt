@@ -1,0 +1,5 @@
+pub mod Replacing
+pub mod Filling
+pub mod Usability
+pub mod RegisterLaws
+pub mod Always

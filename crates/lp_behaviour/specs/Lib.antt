@@ -1,0 +1,4 @@
+pub mod Functions
+pub mod Registers
+pub mod Signals
+pub mod Usable

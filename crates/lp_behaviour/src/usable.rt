@@ -1,0 +1,165 @@
+ghost use Rattle.std.specs.Prelude.{◌≡◌, ◌↔◌, ◌≤◌, ◌&&◌, IsTrue, length};
+ghost use Rattle.std.specs.List.{list_all};
+ghost use Rattle.lp_behaviour.specs.Usable as usable;
+
+use crate::signal::{place_of_pg, place_of_pin};
+use lp_expr::Expr;
+use lp_model::{Cell, PgPin, Pin, StateGroup};
+use lp_text::NameId;
+
+/// Whether a cell keeps what every cell that may be used does: at most 8 power and ground pins, at most
+/// 240 signal pins, functions of at most 12 variables, each of which stands for a pin or the state, and
+/// related pins that it has.
+pub fn is_usable(cell: &Cell) -> bool
+    ensures { IsTrue result ↔ usable.IsUsable cell.now }
+{
+    passes(cell)
+}
+
+/// Whether the parts of a cell pass their tests.
+fn passes(cell: &Cell) -> bool
+    ensures { result ≡ usable.passes cell.now }
+{
+    cell.pgs.len() <= 8
+        && cell.pins.len() <= 240
+        && are_usable_pgs(cell, cell.pgs.as_slice())
+        && are_usable_pins(cell, cell.pins.as_slice())
+        && is_usable_state(cell, &cell.state)
+        && is_function_of_pgs(cell, &cell.roles.retention)
+}
+
+/// Whether each power or ground pin is usable.
+fn are_usable_pgs(cell: &Cell, pgs: &[PgPin]) -> bool
+    ensures { result ≡ list_all (usable.is_usable_pg cell.now) pgs.now }
+{
+    pgs.iter().all(|pg| is_usable_pg(cell, pg))
+}
+
+/// Whether each signal pin is usable.
+fn are_usable_pins(cell: &Cell, pins: &[Pin]) -> bool
+    ensures { result ≡ list_all (usable.is_usable_pin cell.now) pins.now }
+{
+    pins.iter().all(|pin| is_usable_pin(cell, pin))
+}
+
+/// Whether a switched pin has a function, and passes on a pin of the cell.
+fn is_usable_pg(cell: &Cell, pg: &PgPin) -> bool
+    ensures { result ≡ usable.is_usable_pg cell.now pg.now }
+{
+    match &pg.switched {
+        Some(switched) => {
+            is_signal_function(cell, &switched.off) && usize::from(switched.passes) < cell.pgs.len()
+        }
+        None => true,
+    }
+}
+
+/// Whether a signal pin has functions and related pins.
+fn is_usable_pin(cell: &Cell, pin: &Pin) -> bool
+    ensures { result ≡ usable.is_usable_pin cell.now pin.now }
+{
+    is_function_of_signals(cell, &pin.function)
+        && is_function_of_pgs(cell, &pin.power_down)
+        && usize::from(pin.power) < cell.pgs.len()
+        && is_related(cell, pin.gnd)
+}
+
+/// Whether a related ground pin, if there is one, is a pin of the cell.
+fn is_related(cell: &Cell, gnd: Option<u8>) -> bool
+    ensures { result ≡ usable.is_below_if_any (length cell.now.pgs) gnd }
+{
+    match gnd {
+        Some(place) => usize::from(place) < cell.pgs.len(),
+        None => true,
+    }
+}
+
+/// Whether a state has functions.
+fn is_usable_state(cell: &Cell, state: &Option<StateGroup>) -> bool
+    ensures { result ≡ usable.is_usable_state cell.now state.now }
+{
+    match state {
+        Some(group) => {
+            is_signal_function(cell, &group.next)
+                && is_signal_function(cell, &group.clock)
+                && is_signal_function(cell, &group.clear)
+                && is_signal_function(cell, &group.preset)
+                && is_pg_function(cell, &group.power_down)
+        }
+        None => true,
+    }
+}
+
+/// Whether a function of signals, if there is one, has few variables that all stand for something.
+fn is_function_of_signals(cell: &Cell, e: &Option<Expr>) -> bool
+    ensures { result ≡ usable.is_function_if_any (usable.is_signal cell.now) e.now }
+{
+    match e {
+        Some(e) => is_signal_function(cell, e),
+        None => true,
+    }
+}
+
+/// The same of a function of the power and ground pins.
+fn is_function_of_pgs(cell: &Cell, e: &Option<Expr>) -> bool
+    ensures { result ≡ usable.is_function_if_any (usable.is_pg cell.now) e.now }
+{
+    match e {
+        Some(e) => is_pg_function(cell, e),
+        None => true,
+    }
+}
+
+/// Whether a function has few variables, all of which are pins or the state.
+fn is_signal_function(cell: &Cell, e: &Expr) -> bool
+    ensures { result ≡ usable.is_function (usable.is_signal cell.now) e.now }
+{
+    let names = e.variables();
+    names.len() <= 12 && are_signals(cell, names)
+}
+
+/// Whether a function has few variables, all of which are power or ground pins.
+fn is_pg_function(cell: &Cell, e: &Expr) -> bool
+    ensures { result ≡ usable.is_function (usable.is_pg cell.now) e.now }
+{
+    let names = e.variables();
+    names.len() <= 12 && are_pgs(cell, names)
+}
+
+/// Whether each name is that of a pin, of the state or of its inverse.
+fn are_signals(cell: &Cell, names: &[NameId]) -> bool
+    ensures { result ≡ list_all (usable.is_signal cell.now) names.now }
+{
+    names.iter().all(|name| is_signal(cell, *name))
+}
+
+/// Whether each name is that of a power or ground pin.
+fn are_pgs(cell: &Cell, names: &[NameId]) -> bool
+    ensures { result ≡ list_all (usable.is_pg cell.now) names.now }
+{
+    names.iter().all(|name| is_pg(cell, *name))
+}
+
+/// Whether a name is that of a pin, of the state or of its inverse.
+fn is_signal(cell: &Cell, name: NameId) -> bool
+    ensures { result ≡ usable.is_signal cell.now name }
+{
+    place_of_pin(cell.pins.as_slice(), name).is_some() || is_state_name(&cell.state, name)
+}
+
+/// Whether a name is that of the state or of its inverse.
+fn is_state_name(state: &Option<StateGroup>, name: NameId) -> bool
+    ensures { result ≡ usable.is_state_name state.now name }
+{
+    match state {
+        Some(group) => group.var.0 == name.0 || group.inverse.0 == name.0,
+        None => false,
+    }
+}
+
+/// Whether a name is that of a power or ground pin.
+fn is_pg(cell: &Cell, name: NameId) -> bool
+    ensures { result ≡ usable.is_pg cell.now name }
+{
+    place_of_pg(cell.pgs.as_slice(), name).is_some()
+}

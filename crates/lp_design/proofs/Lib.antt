@@ -1,0 +1,5 @@
+mod Computed
+pub mod DesignLaws
+pub mod Looks
+mod Retained
+pub mod Runs

@@ -1,0 +1,4 @@
+pub mod Leaks
+pub mod Network
+pub mod Rows
+pub mod Voltages
