@@ -40,10 +40,10 @@ blank_plain b e = first (b == 32) refl e
     first true h e = at 32 h (refl, refl)
     first false h e = second (b == 10) refl e
 
-abbrev stop_at : ℕ → Bool → Skipped
+abbrev pub stop_at : ℕ → Bool → Skipped
 stop_at at s = record { size = at; gap = s; cut = false }
 
-abbrev cut_at : ℕ → Skipped
+abbrev pub cut_at : ℕ → Skipped
 cut_at at = record { size = at; gap = true; cut = true }
 
 -- ---- a gap is skipped
@@ -68,7 +68,7 @@ module _ (lines : Bool) where
       still [] e = none (b == 42)
       still (x ∷ body) e = negated ((b == 42) && (x == 47)) e
 
-  cut_skipped : (body : List ℕ) (at : ℕ) → IsTrue (no_close body) → skip lines modes.Comment at body ≡ cut_at (at + length body)
+  pub cut_skipped : (body : List ℕ) (at : ℕ) → IsTrue (no_close body) → skip lines modes.Comment at body ≡ cut_at (at + length body)
   cut_skipped [] at h = (let same : at ≡ at + 0 = omega arith in ap cut_at same)
   cut_skipped (b ∷ body) at h =
       let more : (at + 1) + length body ≡ at + suc (length body) = omega arith in

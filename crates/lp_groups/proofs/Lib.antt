@@ -3,6 +3,7 @@ mod Answered
 mod Attrs
 mod Few
 mod Found
+mod Fronts
 mod Gaps
 mod Joined
 mod Leaving
@@ -10,5 +11,6 @@ mod Reading
 mod Running
 mod Shown
 mod Simulation
+mod Standing
 mod Within
 mod Zipper

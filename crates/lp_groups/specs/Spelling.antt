@@ -1,5 +1,5 @@
 -- Which tokens stand in a Liberty text, apart from any reader (own rule).
-use Rattle.std.specs.Prelude.{◌≡◌, ℕ, ◌+◌, ◌==◌, Bool, true, false, not, ◌&&◌, ◌||◌, IsTrue, List, [], ◌∷◌, ◌++◌, length, Option, Some, None, if◌then◌else◌}
+use Rattle.std.specs.Prelude.{◌≡◌, ℕ, ◌+◌, ◌==◌, Bool, true, false, not, ◌&&◌, ◌||◌, IsTrue, List, [], ◌∷◌, ◌++◌, length, drop, Option, Some, None, if◌then◌else◌}
 use Rattle.lp_groups.specs.declared.mark.Mark.TheVariants as marks
 use Rattle.lp_groups.specs.declared.mark.Context.{Context}
 use Rattle.lp_groups.specs.Grammar.{Token, Name, Sign}
@@ -58,3 +58,9 @@ pub data Front (c : Context) (gap : Bool) : List ℕ → ℕ → Option Token �
 pub data First (c : Context) : List ℕ → ℕ → ℕ → Option Token → Type 0 where
   Behind : (gap rest : List ℕ) (s : Bool) (size : ℕ) (token : Option Token) → Gap (is_items c) gap s → IsTrue (not (begins_gap (is_items c) rest)) → Front c s rest size token → First c (gap ++ rest) (length gap) size token
   InComment : (gap body : List ℕ) (s : Bool) → Gap (is_items c) gap s → IsTrue (no_close body) → First c (gap ++ (47 ∷ (42 ∷ body))) (length (gap ++ (47 ∷ (42 ∷ body)))) 0 (Some (Sign marks.Broken))
+
+-- the tokens of a text from a byte on
+pub data Listed : Context → ℕ → List ℕ → List Placed → Type 0 where
+  Done : (c : Context) (at : ℕ) (text : List ℕ) (start size : ℕ) → First c text start size None → Listed c at text []
+  More : (c : Context) (at : ℕ) (text : List ℕ) (start size : ℕ) (token : Token) (tokens : List Placed) → First c text start size (Some token)
+    → Listed (behind c token) (at + (start + size)) (drop (start + size) text) tokens → Listed c at text (record { at = at + start; size = size; token = token } ∷ tokens)

@@ -3,8 +3,17 @@ ghost use Rattle.std.specs.Prelude.{◌≡◌, ℕ, List};
 ghost use Rattle.lp_model.specs.GroupsView.{GroupView};
 ghost use Rattle.lp_model.specs.declared.fault.refusal.Refusal.{Refusal};
 ghost use Rattle.lp_groups.specs.Denotes.{Denotes};
+ghost use Rattle.lp_groups.specs.Spelling.{Listed};
+ghost use Rattle.lp_groups.specs.Tokens.{Placed, tokens_of};
+ghost use Rattle.lp_groups.specs.declared.mark.Context.TheVariants as contexts;
 
 /// Each Liberty text denotes at most one list of groups.
 pub fn one_list_of_groups()
     ensures { (text : List ℕ) (a b : List GroupView) → Denotes text a → Denotes text b → a ≡ b }
+{}
+
+/// The tokens of a Liberty text are those that stand in it, and no others do.
+pub fn one_list_of_tokens()
+    ensures found { (text : List ℕ) → Listed contexts.Statement 0 text (tokens_of text) }
+    ensures once { (text : List ℕ) (a b : List Placed) → Listed contexts.Statement 0 text a → Listed contexts.Statement 0 text b → a ≡ b }
 {}

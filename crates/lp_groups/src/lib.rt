@@ -12,6 +12,7 @@ mod run;
 mod runs;
 
 pub use laws::one_list_of_groups;
+pub use laws::one_list_of_tokens;
 pub use read::read_groups;
 
 #[cfg(test)]
