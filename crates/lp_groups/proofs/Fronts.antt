@@ -1,21 +1,20 @@
 -- The token that a text begins with is the one that stands there.
-use Rattle.std.proofs.Common.{◌≡◌, ℕ, zero, suc, ◌+◌, ◌-◌, ◌<◌, ◌≤◌, ◌==◌, Bool, true, false, not, List, [], ◌∷◌, ◌++◌, ◌&&◌, ◌||◌, length, length-append, take, drop, Option, Some, None, refl, sym, ap, ◌∙◌, subst, arith, append_assoc, zero-add, drop-drop}
+use Rattle.std.proofs.Common.{◌≡◌, ℕ, suc, ◌+◌, ◌-◌, ◌==◌, Bool, true, false, not, List, [], ◌∷◌, ◌++◌, ◌&&◌, length, length-append, take, drop, Option, Some, None, refl, sym, ap, ◌∙◌, subst, arith, zero-add, drop-drop}
 use Rattle.std.specs.Prelude.{if◌then◌else◌, IsTrue}
-use Rattle.std.proofs.lemmas.Bool.{true≢false, eqb-true}
+use Rattle.std.proofs.lemmas.Bool.{true≢false}
 use Rattle.std.proofs.lemmas.List.{take_all}
 use Rattle.lp_groups.specs.declared.mark.Mark.TheVariants as marks
 use Rattle.lp_groups.specs.declared.mark.Sort.TheVariants as sorts
 use Rattle.lp_groups.specs.declared.mark.Gap.TheVariants as modes
 use Rattle.lp_groups.specs.declared.mark.Context.{Context}
-use Rattle.lp_groups.specs.declared.gap.Skipped.{Skipped}
 use Rattle.lp_groups.specs.declared.lexed.Lexed.{Lexed}
 use Rattle.lp_groups.specs.Grammar.{Token, Name, Sign}
-use Rattle.lp_groups.specs.Lexing.{begins_with, is_blank, gap_start, skip, goes_on, word_end, string_end, string_size, is_word, is_args, is_items, is_glued, mark_of, name_of, word_at, quoted_at, beginning, behind_gap, lexed_at}
+use Rattle.lp_groups.specs.Lexing.{gap_start, skip, goes_on, word_end, string_end, string_size, is_word, is_args, is_items, is_glued, mark_of, name_of, word_at, quoted_at, beginning, behind_gap, lexed_at}
 use Rattle.lp_groups.specs.Tokens.{between, token_of}
 use Rattle.lp_groups.specs.Spelling as spelling
 use Rattle.lp_groups.specs.Spelling.{no_close, Gap, begins_gap, ends_word, is_run, are_escaped, escapes, name_token, Front, First}
-use Rattle.lp_groups.proofs.Joined.{both, conj_left, conj_right}
-use Rattle.lp_groups.proofs.Gaps.{begins_is, gap_skipped, gap_stops, cut_skipped, stop_at, cut_at}
+use Rattle.lp_groups.proofs.Joined.{conj_left, conj_right}
+use Rattle.lp_groups.proofs.Gaps.{gap_skipped, gap_stops, cut_skipped, stop_at, cut_at}
 
 pub negated : (k : Bool) → not k ≡ true → k ≡ false
 negated true e = absurd (true≢false (sym e))
@@ -88,21 +87,21 @@ front_says c gap rest size token (spelling.Word b raw behind no_quote word run) 
     let size_of : start + n - start ≡ n = omega arith in
     let bytes : between text start (start + n) ≡ b ∷ raw = ap (λ k. take k (drop start text)) size_of ∙ ap (take n) cut ∙ take_front (b ∷ raw) behind in
     let plain : beginning c gap start whole ≡ record { start = start; size = n; from = start; «to» = start + n; sort = if is_glued c gap then sorts.Mark marks.Broken else sorts.Word } =
-        second (b == 34) (is_word (is_args c) b) (quoted_at c gap start (raw ++ behind)) (word_at c gap start whole) (marked start b) (negated (b == 34) no_quote) word ∙ (ap (λ (k : ℕ). record { start = start; size = k; from = start; «to» = start + k; sort = if is_glued c gap then sorts.Mark marks.Broken else sorts.Word }) ends) in
+    second (b == 34) (is_word (is_args c) b) (quoted_at c gap start (raw ++ behind)) (word_at c gap start whole) (marked start b) (negated (b == 34) no_quote) word ∙ (ap (λ (k : ℕ). record { start = start; size = k; from = start; «to» = start + k; sort = if is_glued c gap then sorts.Mark marks.Broken else sorts.Word }) ends) in
     subst (λ (l : Lexed). Says text l start n (Some (name_token c gap false (b ∷ raw)))) (sym plain) (named text start n start (start + n) c gap false (b ∷ raw) bytes)
 front_says c gap rest size token (spelling.Quoted inside behind escaped ends) text start cut =
     let n = length inside in
     let stops : string_end false 0 (inside ++ (34 ∷ behind)) ≡ Some n = string_ends false inside behind 0 escaped ends ∙ ap Some (zero-add n) in
     let bytes : between text (start + 1) (start + 1 + n) ≡ inside = (let k : start + 1 + n - (start + 1) ≡ n = omega arith in ap (λ k. take k (drop (start + 1) text)) k) ∙ ap (take n) (sym (drop-drop 1 start text) ∙ ap (drop 1) cut) ∙ take_front inside (34 ∷ behind) in
     let plain : beginning c gap start (34 ∷ (inside ++ (34 ∷ behind))) ≡ record { start = start; size = n + 2; from = start + 1; «to» = start + 1 + n; sort = if is_glued c gap then sorts.Mark marks.Broken else sorts.Quoted } =
-        ap (λ (o : Option ℕ). record { start = start; size = (string_size (inside ++ (34 ∷ behind)) o).1; from = start + 1; «to» = start + 1 + (string_size (inside ++ (34 ∷ behind)) o).0; sort = if is_glued c gap then sorts.Mark marks.Broken else sorts.Quoted }) stops in
+    ap (λ (o : Option ℕ). record { start = start; size = (string_size (inside ++ (34 ∷ behind)) o).1; from = start + 1; «to» = start + 1 + (string_size (inside ++ (34 ∷ behind)) o).0; sort = if is_glued c gap then sorts.Mark marks.Broken else sorts.Quoted }) stops in
     subst (λ (l : Lexed). Says text l start (n + 2) (Some (name_token c gap true inside))) (sym plain) (named text start (n + 2) (start + 1) (start + 1 + n) c gap true inside bytes)
 front_says c gap rest size token (spelling.Cut inside escaped) text start cut =
     let n = length inside in
     let stops : string_end false 0 inside ≡ None = string_cut false inside 0 escaped in
     let bytes : between text (start + 1) (start + 1 + n) ≡ inside = (let k : start + 1 + n - (start + 1) ≡ n = omega arith in ap (λ k. take k (drop (start + 1) text)) k) ∙ ap (take n) (sym (drop-drop 1 start text) ∙ ap (drop 1) cut) ∙ take_all n inside (omega arith) in
     let plain : beginning c gap start (34 ∷ inside) ≡ record { start = start; size = n + 1; from = start + 1; «to» = start + 1 + n; sort = if is_glued c gap then sorts.Mark marks.Broken else sorts.Quoted } =
-        ap (λ (o : Option ℕ). record { start = start; size = (string_size inside o).1; from = start + 1; «to» = start + 1 + (string_size inside o).0; sort = if is_glued c gap then sorts.Mark marks.Broken else sorts.Quoted }) stops in
+    ap (λ (o : Option ℕ). record { start = start; size = (string_size inside o).1; from = start + 1; «to» = start + 1 + (string_size inside o).0; sort = if is_glued c gap then sorts.Mark marks.Broken else sorts.Quoted }) stops in
     subst (λ (l : Lexed). Says text l start (n + 1) (Some (name_token c gap true inside))) (sym plain) (named text start (n + 1) (start + 1) (start + 1 + n) c gap true inside bytes)
 front_says c gap rest size token (spelling.Marked b behind no_quote no_word) text start cut =
     let plain : beginning c gap start (b ∷ behind) ≡ record { start = start; size = 1; from = start; «to» = start; sort = sorts.Mark (mark_of b) } = third (b == 34) (is_word (is_args c) b) (quoted_at c gap start behind) (word_at c gap start (b ∷ behind)) (marked start b) (negated (b == 34) no_quote) (negated (is_word (is_args c) b) no_word) in
@@ -113,7 +112,7 @@ pub first_says : (c : Context) (text : List ℕ) (start size : ℕ) (token : Opt
 first_says c text start size token (spelling.Behind gap rest s n t g stop front) =
     let k = length gap in
     let skipped : skip (is_items c) gap_start 0 (gap ++ rest) ≡ stop_at k s =
-        gap_skipped (is_items c) gap s g rest false 0 ∙ ap (λ n. skip (is_items c) (modes.Plain s) n rest) (zero-add k) ∙ gap_stops (is_items c) rest s k stop in
+    gap_skipped (is_items c) gap s g rest false 0 ∙ ap (λ n. skip (is_items c) (modes.Plain s) n rest) (zero-add k) ∙ gap_stops (is_items c) rest s k stop in
     let there : drop k (gap ++ rest) ≡ rest = drop_front gap rest in
     let same : lexed_at c (gap ++ rest) ≡ beginning c s k rest = ap (behind_gap c (gap ++ rest)) skipped ∙ ap (beginning c s k) there in
     subst (λ (l : Lexed). Says (gap ++ rest) l k n t) (sym same) (front_says c s rest n t front (gap ++ rest) k there)
@@ -122,5 +121,5 @@ first_says c text start size token (spelling.InComment gap body s g open_body) =
     let whole = gap ++ (47 ∷ (42 ∷ body)) in
     let size_of : ((k + 1) + 1) + length body ≡ length whole = (let parts = length-append gap (47 ∷ (42 ∷ body)) in omega arith) in
     let skipped : skip (is_items c) gap_start 0 whole ≡ cut_at (length whole) =
-        gap_skipped (is_items c) gap s g (47 ∷ (42 ∷ body)) false 0 ∙ ap (λ n. skip (is_items c) (modes.Plain s) n (47 ∷ (42 ∷ body))) (zero-add k) ∙ cut_skipped (is_items c) body ((k + 1) + 1) open_body ∙ ap cut_at size_of in
+    gap_skipped (is_items c) gap s g (47 ∷ (42 ∷ body)) false 0 ∙ ap (λ n. skip (is_items c) (modes.Plain s) n (47 ∷ (42 ∷ body))) (zero-add k) ∙ cut_skipped (is_items c) body ((k + 1) + 1) open_body ∙ ap cut_at size_of in
     subst (λ (l : Lexed). Says whole l (length whole) 0 (Some (Sign marks.Broken))) (sym (ap (behind_gap c whole) skipped)) (record { starts = refl; sizes = refl; tokens = refl })

@@ -1,14 +1,13 @@
 -- What is skipped before a token is the gap before it.
-use Rattle.std.proofs.Common.{◌≡◌, ℕ, zero, suc, ◌+◌, ◌==◌, Bool, true, false, not, List, [], ◌∷◌, ◌++◌, ◌&&◌, ◌||◌, length, length-append, Option, Some, None, refl, sym, ap, ◌∙◌, subst, arith, append_assoc}
+use Rattle.std.proofs.Common.{◌≡◌, ℕ, suc, ◌+◌, ◌==◌, Bool, true, false, not, List, [], ◌∷◌, ◌++◌, ◌&&◌, ◌||◌, length, length-append, Some, None, refl, sym, ap, ◌∙◌, subst, arith, append_assoc}
 use Rattle.std.specs.Prelude.{if◌then◌else◌, IsTrue}
 use Rattle.std.proofs.lemmas.Bool.{true≢false, eqb-true}
-use Rattle.lp_groups.specs.declared.mark.Gap as mode
 use Rattle.lp_groups.specs.declared.mark.Gap.TheVariants as modes
 use Rattle.lp_groups.specs.declared.gap.Skipped.{Skipped}
-use Rattle.lp_groups.specs.Lexing.{begins_with, is_blank, gap_step, skip_on, skip}
+use Rattle.lp_groups.specs.Lexing.{begins_with, is_blank, skip_on, skip}
 use Rattle.lp_groups.specs.Spelling as spelling
 use Rattle.lp_groups.specs.Spelling.{no_close, Gap, begins_gap}
-use Rattle.lp_groups.proofs.Joined.{both, conj_left, conj_right}
+use Rattle.lp_groups.proofs.Joined.{conj_left, conj_right}
 
 pub begins_is : (b : ℕ) (text : List ℕ) → begins_with b text ≡ true → (rest : List ℕ) × (text ≡ b ∷ rest)
 begins_is b [] e = absurd (true≢false (sym e))

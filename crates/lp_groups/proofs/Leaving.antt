@@ -213,7 +213,7 @@ module _ (room : ℕ → Bool) where
   args_ends : (room 0 ≡ true) → (fs : List Frame) (d : Body) (l : last.Last) (w : List ℕ) (held : List Token) → (rest : List Token) × Ends (in_statement fs d (modes.Args l) w held) rest
   args_ends r fs d lasts.Nothing w held = let e = behind_ends r fs d w held in (Sign marks.ParenClose ∷ e.0, ends_behind (in_statement fs d (modes.Args lasts.Nothing) w held) (in_statement fs d modes.Behind w held) (Sign marks.ParenClose ∷ []) e.0 refl e.1)
   args_ends r fs d lasts.Name w held = let e = behind_ends r fs d w held in (Sign marks.ParenClose ∷ e.0, ends_behind (in_statement fs d (modes.Args lasts.Name) w held) (in_statement fs d modes.Behind w held) (Sign marks.ParenClose ∷ []) e.0 refl e.1)
-  args_ends r fs d lasts.Comma w held = let e = behind_ends r fs d w (held ++ Name false [] ∷ []) in (Name false [] ∷ (Sign marks.ParenClose ∷ e.0), ends_behind (in_statement fs d (modes.Args lasts.Comma) w held) (in_statement fs d modes.Behind w (held ++ Name false [] ∷ [])) (Name false [] ∷ (Sign marks.ParenClose ∷ [])) e.0 refl e.1)
+  args_ends r fs d lasts.Comma w held = let e = behind_ends r fs d w (held ++ Name true [] ∷ []) in (Name true [] ∷ (Sign marks.ParenClose ∷ e.0), ends_behind (in_statement fs d (modes.Args lasts.Comma) w held) (in_statement fs d modes.Behind w (held ++ Name true [] ∷ [])) (Name true [] ∷ (Sign marks.ParenClose ∷ [])) e.0 refl e.1)
 
   ends_by : (room 0 ≡ true) → (fs : List Frame) (d : Body) (mode : Mode) (w : List ℕ) (held : List Token) → GoodStatement fs d mode held → (rest : List Token) × Ends (in_statement fs d mode w held) rest
   ends_by r fs d (modes.Begin semi) w held g = (closings fs, by fs)

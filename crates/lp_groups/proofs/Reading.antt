@@ -113,9 +113,9 @@ module _ (text : List ℕ) where
 
   abbrev pub Answers : Reading → Type 0
   Answers (Whole names groups) = IsTrue (are_short all) × ((limited : Limited bares) × (map (group_view names) groups ≡ groups_in None 0 limited.body))
-  Answers (Stopped index) = LeavesForm text index
-  Answers (Deep index) = HasDeepGroup text index
-  Answers (Long index) = HasLongToken text index
+  Answers (Stopped index) = LeavesForm (length text) all index
+  Answers (Deep index) = HasDeepGroup (length text) all index
+  Answers (Long index) = HasLongToken all index
 
   -- the machine at a token, and what it has read
   record At (k : ℕ) (z : State) : Type 0 where
@@ -126,7 +126,7 @@ module _ (text : List ℕ) where
   good : (k : ℕ) (z : State) → At k z → HasRead below_64 (take k bares) z
   good k z a = reads below_64 (take k bares) z a.taken
 
-  keeps : (k : ℕ) (z : State) → At k z → KeepsLimits text k
+  keeps : (k : ℕ) (z : State) → At k z → KeepsLimits all k
   keeps k z a = record { short = a.short; goes_on = goes_on below_64 refl (take k bares) z a.taken }
 
   within_bares : (k : ℕ) → k ≤ length all → k ≤ length bares
@@ -136,7 +136,7 @@ module _ (text : List ℕ) where
   unlimited k z a = always_steps zip.start z (take k bares) a.taken
 
   -- where the machine stops, though groups may be of any depth
-  stops_form : (k : ℕ) (z : State) (index : ℕ) → At k z → IsTrue (are_short (take (suc k) all)) → Stops (step always) accepts z (drop k bares) → index ≡ place k → LeavesForm text index
+  stops_form : (k : ℕ) (z : State) (index : ℕ) → At k z → IsTrue (are_short (take (suc k) all)) → Stops (step always) accepts z (drop k bares) → index ≡ place k → LeavesForm (length text) all index
   stops_form k z index a short stop is = record {
     number = k;
     before = keeps k z a;
@@ -180,7 +180,7 @@ module _ (text : List ℕ) where
         let size : length (take k bares) ≡ k = length-take-le k bares (within_bares k a.within) in
         (g.0, is_index ∙ ap place (sym size) ∙ ap (λ xs. place (length xs)) (sym g.1))
 
-    long_here : 1048576 < t.size → HasLongToken text t.at
+    long_here : 1048576 < t.size → HasLongToken all t.at
     long_here h = record { number = k; before = keeps k z a; token = t; after = rest; here = here; long = h; is = refl }
 
     module _ (short : t.size ≤ 1048576) where
@@ -194,11 +194,11 @@ module _ (text : List ℕ) where
         short = short_more;
       }
 
-      off_here : step always z t.token ≡ None → LeavesForm text t.at
+      off_here : step always z t.token ≡ None → LeavesForm (length text) all t.at
       off_here e = stops_form k z t.at a short_more (subst (Stops (step always) accepts z) (sym here_bare) e) is_index
 
       -- the brace of a group that is too deep
-      deep_here : (head : ℕ) → z.mode ≡ modes.Behind → t.token ≡ Sign marks.BraceOpen → step below_64 z t.token ≡ None → head ≡ place (length (frames_text z.frames ++ spelling z.done)) → HasDeepGroup text head
+      deep_here : (head : ℕ) → z.mode ≡ modes.Behind → t.token ≡ Sign marks.BraceOpen → step below_64 z t.token ≡ None → head ≡ place (length (frames_text z.frames ++ spelling z.done)) → HasDeepGroup (length text) all head
       deep_here head mode brace e is =
           let g = good k z a in
           let front = frames_text z.frames ++ spelling z.done in

@@ -1,19 +1,18 @@
 -- Each text begins with a token, or has none.
-use Rattle.std.proofs.Common.{◌≡◌, ℕ, zero, suc, ◌+◌, ◌-◌, ◌<◌, ◌≤◌, ◌==◌, Bool, true, false, not, List, [], ◌∷◌, ◌++◌, ◌&&◌, ◌||◌, length, length-append, length-drop, drop, Option, Some, None, refl, sym, ap, ◌∙◌, subst, arith, append_assoc}
+use Rattle.std.proofs.Common.{◌≡◌, ℕ, zero, suc, ◌+◌, ◌≤◌, ◌==◌, Bool, true, false, not, List, [], ◌∷◌, ◌++◌, ◌&&◌, ◌||◌, length, length-append, length-drop, drop, Option, Some, None, refl, sym, ap, ◌∙◌, subst, arith, append_assoc}
 use Rattle.std.specs.Prelude.{if◌then◌else◌, IsTrue}
 use Rattle.std.proofs.lemmas.Bool.{true≢false, eqb-true}
 use Rattle.lp_groups.specs.declared.mark.Mark.TheVariants as marks
 use Rattle.lp_groups.specs.declared.mark.Context.{Context}
-use Rattle.lp_groups.specs.declared.mark.Context.TheVariants as contexts
 use Rattle.lp_groups.specs.declared.lexed.Lexed.{Lexed}
-use Rattle.lp_groups.specs.Grammar.{Token, Name, Sign}
+use Rattle.lp_groups.specs.Grammar.{Token, Sign}
 use Rattle.lp_groups.specs.Lexing.{begins_with, is_blank, goes_on, is_word, is_args, is_items, lexed_at, mark_of}
-use Rattle.lp_groups.specs.Tokens.{Placed, behind, placed, listed, token_of, tokens_from, tokens_of}
+use Rattle.lp_groups.specs.Tokens.{Placed, behind, placed, listed, token_of, tokens_from}
 use Rattle.lp_groups.specs.Spelling as spelling
 use Rattle.lp_groups.specs.Spelling.{no_close, Gap, begins_gap, ends_word, is_run, are_escaped, escapes, name_token, Front, First, Listed}
 use Rattle.lp_groups.proofs.Joined.{both, conj_left, conj_right}
 use Rattle.lp_groups.proofs.Gaps.{begins_is}
-use Rattle.lp_groups.proofs.Fronts.{negated, first_says, Says}
+use Rattle.lp_groups.proofs.Fronts.{first_says}
 
 -- ---- comments
 
@@ -198,7 +197,7 @@ found_tokens (suc k) c at text h =
     l = lexed_at c text
 
     by : (o : Option Token) → First c text l.start l.size o → Consumes text (l.start + l.size) o → ((c2 : Context) (at2 : ℕ) → length (drop (l.start + l.size) text) ≤ k → Listed c2 at2 (drop (l.start + l.size) text) (tokens_from k c2 at2 (drop (l.start + l.size) text)))
-      → Listed c at text (listed (λ t. placed at l t ∷ tokens_from k (behind c t) (at + (l.start + l.size)) (drop (l.start + l.size) text)) o)
+        → Listed c at text (listed (λ t. placed at l t ∷ tokens_from k (behind c t) (at + (l.start + l.size)) (drop (l.start + l.size) text)) o)
     by None f n more = spelling.Done c at text l.start l.size f
     by (Some t) f n more =
         let size = length-drop (l.start + l.size) text in
@@ -219,9 +218,9 @@ listing_more c at text s n t tokens f b (spelling.More c2 at2 text2 s2 n2 t2 tok
     let token : Some t ≡ Some t2 = e.2 in
     let same : t ≡ t2 = cc in
     let moved : Listed (behind c t) (at + (s + n)) (drop (s + n) text) tokens2 =
-        subst (λ (x : Token). Listed (behind c x) (at + (s + n)) (drop (s + n) text) tokens2) (sym same)
-        (subst (λ (k : ℕ). Listed (behind c t2) (at + (k + n)) (drop (k + n) text) tokens2) (sym e.0)
-        (subst (λ (k : ℕ). Listed (behind c t2) (at + (s2 + k)) (drop (s2 + k) text) tokens2) (sym e.1) more2)) in
+    subst (λ (x : Token). Listed (behind c x) (at + (s + n)) (drop (s + n) text) tokens2) (sym same)
+    (subst (λ (k : ℕ). Listed (behind c t2) (at + (k + n)) (drop (k + n) text) tokens2) (sym e.0)
+    (subst (λ (k : ℕ). Listed (behind c t2) (at + (s2 + k)) (drop (s2 + k) text) tokens2) (sym e.1) more2)) in
     ap (λ rest. record { at = at + s; size = n; token = t } ∷ rest) (rec tokens2 moved)
     ∙ ap (λ k. record { at = at + k; size = n; token = t } ∷ tokens2) e.0
     ∙ ap (λ k. record { at = at + s2; size = k; token = t } ∷ tokens2) e.1

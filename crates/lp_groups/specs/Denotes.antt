@@ -12,13 +12,16 @@ use Rattle.lp_model.specs.declared.fault.refusal.Refusal.TheVariants as refusals
 use Rattle.lp_groups.specs.declared.mark.Mark.TheVariants as marks
 use Rattle.lp_groups.specs.Grammar.{Token, Name, Sign, are_args, Form, Limited}
 use Rattle.lp_groups.specs.Meaning.{groups_in}
-use Rattle.lp_groups.specs.Tokens.{Placed, tokens_of}
+use Rattle.lp_groups.specs.Tokens.{Placed}
+use Rattle.lp_groups.specs.Spelling.{Listed}
+use Rattle.lp_groups.specs.declared.mark.Context.TheVariants as contexts
 
 abbrev pub bare : List Placed → List Token
 bare tokens = map (λ (t : Placed). t.token) tokens
 
-abbrev pub bare_of : List ℕ → List Token
-bare_of text = bare (tokens_of text)
+-- the tokens that stand in a text
+abbrev pub IsTokens : List ℕ → List Placed → Type 0
+IsTokens text tokens = Listed contexts.Statement 0 text tokens
 
 -- tokens have at most 1,048,576 bytes each
 abbrev pub are_short : List Placed → Bool
@@ -28,8 +31,10 @@ are_short tokens = list_all (λ (t : Placed). nat_le t.size 1048576) tokens
 
 pub record Denotes (text : List ℕ) (groups : List GroupView) : Type 0 where
   pub small : length text ≤ 67108864
-  pub short : IsTrue (are_short (tokens_of text))
-  pub limited : Limited (bare_of text)
+  pub tokens : List Placed
+  pub stand : IsTokens text tokens
+  pub short : IsTrue (are_short tokens)
+  pub limited : Limited (bare tokens)
   pub same : groups ≡ groups_in None 0 limited.body
 
 -- ---- texts that are refused
@@ -40,46 +45,43 @@ index_in end [] number = end
 index_in end (t ∷ tokens) zero = t.at
 index_in end (t ∷ tokens) (suc number) = index_in end tokens number
 
-abbrev pub index_of : List ℕ → ℕ → ℕ
-index_of text number = index_in (length text) (tokens_of text) number
-
 -- the tokens before one keep the limits and can go on to a text that does
-pub record KeepsLimits (text : List ℕ) (number : ℕ) : Type 0 where
-  pub short : IsTrue (are_short (take number (tokens_of text)))
-  pub goes_on : (rest : List Token) × Limited (take number (bare_of text) ++ rest)
+pub record KeepsLimits (tokens : List Placed) (number : ℕ) : Type 0 where
+  pub short : IsTrue (are_short (take number tokens))
+  pub goes_on : (rest : List Token) × Limited (take number (bare tokens) ++ rest)
 
 -- at the first token that no text of the form has after the same ones before it, or at the end of a text that ends first
-pub record LeavesForm (text : List ℕ) (index : ℕ) : Type 0 where
+pub record LeavesForm (end : ℕ) (tokens : List Placed) (index : ℕ) : Type 0 where
   pub number : ℕ
-  pub before : KeepsLimits text number
-  pub short : IsTrue (are_short (take (suc number) (tokens_of text)))
-  pub leaves : Leaves Token Form (bare_of text) number
-  pub is : index ≡ index_of text number
+  pub before : KeepsLimits tokens number
+  pub short : IsTrue (are_short (take (suc number) tokens))
+  pub leaves : Leaves Token Form (bare tokens) number
+  pub is : index ≡ index_in end tokens number
 
 -- at a token of more than 1,048,576 bytes
-pub record HasLongToken (text : List ℕ) (index : ℕ) : Type 0 where
+pub record HasLongToken (tokens : List Placed) (index : ℕ) : Type 0 where
   pub number : ℕ
-  pub before : KeepsLimits text number
+  pub before : KeepsLimits tokens number
   pub token : Placed
   pub after : List Placed
-  pub here : drop number (tokens_of text) ≡ token ∷ after
+  pub here : drop number tokens ≡ token ∷ after
   pub long : 1048576 < token.size
   pub is : index ≡ token.at
 
 -- at the word of a group whose opening brace goes on in the form, but not with at most 64 nested groups
-pub record HasDeepGroup (text : List ℕ) (index : ℕ) : Type 0 where
+pub record HasDeepGroup (end : ℕ) (tokens : List Placed) (index : ℕ) : Type 0 where
   pub number : ℕ
-  pub before : KeepsLimits text number
-  pub short : IsTrue (are_short (take (suc number) (tokens_of text)))
+  pub before : KeepsLimits tokens number
+  pub short : IsTrue (are_short (take (suc number) tokens))
   pub front : List Token
   pub word : List ℕ
   pub args : List Token
   pub are_args : IsTrue (are_args args)
-  pub head : take number (bare_of text) ≡ front ++ (Name false word ∷ (Sign marks.ParenOpen ∷ (args ++ Sign marks.ParenClose ∷ [])))
-  pub brace : take (suc number) (bare_of text) ≡ take number (bare_of text) ++ Sign marks.BraceOpen ∷ []
-  pub goes_on : (rest : List Token) × Form (take (suc number) (bare_of text) ++ rest)
-  pub leaves : Leaves Token Limited (bare_of text) number
-  pub is : index ≡ index_of text (length front)
+  pub head : take number (bare tokens) ≡ front ++ (Name false word ∷ (Sign marks.ParenOpen ∷ (args ++ Sign marks.ParenClose ∷ [])))
+  pub brace : take (suc number) (bare tokens) ≡ take number (bare tokens) ++ Sign marks.BraceOpen ∷ []
+  pub goes_on : (rest : List Token) × Form (take (suc number) (bare tokens) ++ rest)
+  pub leaves : Leaves Token Limited (bare tokens) number
+  pub is : index ≡ index_in end tokens (length front)
 
 -- ---- answers
 
@@ -92,7 +94,7 @@ pub record ReadsGroups (file : ℕ) (text : List ℕ) (names : List (List ℕ)) 
 -- the text's fault: too long, too deep, a token too long, off the form
 pub data RefusedAs (file : ℕ) (text : List ℕ) : Refusal → Type 0 where
   Large : 67108864 < length text → RefusedAs file text (library_refusal (faults.Limit file (place_in text 0)))
-  Long : (index : ℕ) → length text ≤ 67108864 → HasLongToken text index → RefusedAs file text (library_refusal (faults.Limit file (place_in text index)))
-  Deep : (index : ℕ) → length text ≤ 67108864 → HasDeepGroup text index → RefusedAs file text (library_refusal (faults.Limit file (place_in text index)))
-  Off : (index : ℕ) → length text ≤ 67108864 → LeavesForm text index → RefusedAs file text (library_refusal (faults.Syntax file (place_in text index)))
+  Long : (tokens : List Placed) (index : ℕ) → length text ≤ 67108864 → IsTokens text tokens → HasLongToken tokens index → RefusedAs file text (library_refusal (faults.Limit file (place_in text index)))
+  Deep : (tokens : List Placed) (index : ℕ) → length text ≤ 67108864 → IsTokens text tokens → HasDeepGroup (length text) tokens index → RefusedAs file text (library_refusal (faults.Limit file (place_in text index)))
+  Off : (tokens : List Placed) (index : ℕ) → length text ≤ 67108864 → IsTokens text tokens → LeavesForm (length text) tokens index → RefusedAs file text (library_refusal (faults.Syntax file (place_in text index)))
   NoMemory : RefusedAs file text refusals.NoMemory

@@ -1,5 +1,5 @@
 -- Which tokens stand in a Liberty text, apart from any reader (own rule).
-use Rattle.std.specs.Prelude.{◌≡◌, ℕ, ◌+◌, ◌==◌, Bool, true, false, not, ◌&&◌, ◌||◌, IsTrue, List, [], ◌∷◌, ◌++◌, length, drop, Option, Some, None, if◌then◌else◌}
+use Rattle.std.specs.Prelude.{ℕ, ◌+◌, ◌==◌, Bool, true, false, not, ◌&&◌, ◌||◌, IsTrue, List, [], ◌∷◌, ◌++◌, length, drop, Option, Some, None, if◌then◌else◌}
 use Rattle.lp_groups.specs.declared.mark.Mark.TheVariants as marks
 use Rattle.lp_groups.specs.declared.mark.Context.{Context}
 use Rattle.lp_groups.specs.Grammar.{Token, Name, Sign}
@@ -63,4 +63,4 @@ pub data First (c : Context) : List ℕ → ℕ → ℕ → Option Token → Typ
 pub data Listed : Context → ℕ → List ℕ → List Placed → Type 0 where
   Done : (c : Context) (at : ℕ) (text : List ℕ) (start size : ℕ) → First c text start size None → Listed c at text []
   More : (c : Context) (at : ℕ) (text : List ℕ) (start size : ℕ) (token : Token) (tokens : List Placed) → First c text start size (Some token)
-    → Listed (behind c token) (at + (start + size)) (drop (start + size) text) tokens → Listed c at text (record { at = at + start; size = size; token = token } ∷ tokens)
+      → Listed (behind c token) (at + (start + size)) (drop (start + size) text) tokens → Listed c at text (record { at = at + start; size = size; token = token } ∷ tokens)

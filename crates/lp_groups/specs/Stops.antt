@@ -7,12 +7,13 @@ use Rattle.lp_model.specs.declared.fault.refusal.Refusal.{Refusal}
 use Rattle.lp_model.specs.declared.fault.refusal.Refusal.TheVariants as refusals
 use Rattle.lp_groups.specs.declared.run.Stop.{Stop}
 use Rattle.lp_groups.specs.declared.run.Stop.TheVariants as stops
+use Rattle.lp_groups.specs.Tokens.{tokens_of}
 use Rattle.lp_groups.specs.Denotes.{LeavesForm, HasDeepGroup, HasLongToken}
 
 abbrev pub StopsAt : List ℕ → Stop → Type 0
-StopsAt text (stops.Syntax index) = (index ≤ length text) × LeavesForm text index
-StopsAt text (stops.Deep index) = (index ≤ length text) × HasDeepGroup text index
-StopsAt text (stops.Long index) = (index ≤ length text) × HasLongToken text index
+StopsAt text (stops.Syntax index) = (index ≤ length text) × LeavesForm (length text) (tokens_of text) index
+StopsAt text (stops.Deep index) = (index ≤ length text) × HasDeepGroup (length text) (tokens_of text) index
+StopsAt text (stops.Long index) = (index ≤ length text) × HasLongToken (tokens_of text) index
 StopsAt text stops.NoMemory = Unit {0}
 
 abbrev pub refusal_by : ℕ → List ℕ → Stop → Refusal
