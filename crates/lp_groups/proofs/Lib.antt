@@ -7,6 +7,7 @@ mod Fronts
 mod Gaps
 mod Joined
 mod Leaving
+mod OneAnswer
 mod Reading
 mod Running
 mod Shown
