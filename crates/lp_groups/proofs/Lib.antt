@@ -1,0 +1,17 @@
+mod Always
+mod Answered
+mod Attrs
+mod Few
+mod Found
+mod Fronts
+mod Gaps
+mod Joined
+mod Leaving
+mod OneAnswer
+mod Reading
+mod Running
+mod Shown
+mod Simulation
+mod Standing
+mod Within
+mod Zipper
