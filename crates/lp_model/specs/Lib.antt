@@ -1,0 +1,11 @@
+pub mod Agreement
+pub mod Bits
+pub mod CommandsView
+pub mod FaultLines
+pub mod FaultWords
+pub mod GroupsView
+pub mod LibraryView
+pub mod NetlistView
+pub mod Reasons
+pub mod Refusals
+pub mod Slots

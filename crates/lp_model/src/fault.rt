@@ -1,0 +1,22 @@
+mod check;
+mod from;
+mod intent;
+mod library;
+mod line;
+mod netlist;
+mod refs;
+mod refusal;
+mod run;
+mod strategy;
+mod supply;
+
+pub use check::CheckFault;
+pub use intent::{IntentFault, IntentLimit, LoadLimit};
+pub use library::LibraryFault;
+pub use line::{write_line, write_line_with};
+pub use netlist::{InstanceRef, JoinRef, NetlistFault, NetlistLimit, PinRef, UnfitReason};
+pub use refs::{ControlRef, DriverRef, EntryRef, PartRef, PoweredRef, ReaderRef, Site};
+pub use refusal::{DesignFault, Fault, Loaded, Refusal};
+pub use run::{EventFault, GeneratorFault, PinFault};
+pub use strategy::StrategyFault;
+pub use supply::{RowRef, SupplyFault, SupplyRef};
