@@ -1,3 +1,4 @@
+pub mod Visible
 pub mod Steps
 pub mod Tables
 pub mod Words

@@ -9,3 +9,6 @@ pub mod Scopes
 pub mod Values
 pub mod Steps
 pub mod Machine
+pub mod Reading
+pub mod Answers
+pub mod Denotes

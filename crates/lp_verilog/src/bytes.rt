@@ -55,7 +55,7 @@ fn is_constant_byte(byte: u8) -> bool
 }
 
 /// ASCII that is printed.
-fn is_visible(byte: u8) -> bool
+pub(crate) fn is_visible(byte: u8) -> bool
     ensures { result ≡ is_visible byte }
 {
     33 <= byte && byte <= 126

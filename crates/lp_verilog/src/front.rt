@@ -1,27 +1,31 @@
-ghost use Rattle.std.specs.Prelude.{◌≡◌, ◌+◌, ◌≤◌, ◌<◌, length, take, drop, [], ◌∷◌, IfSome};
+ghost use Rattle.std.specs.Prelude.{◌≡◌, ◌+◌, ◌≤◌, ◌<◌, length, take, drop, [], ◌∷◌, IsTrue, IfSome};
 ghost use Rattle.std.specs.Option.{option_map};
-ghost use Rattle.std.specs.List.{prefix_len};
+ghost use Rattle.std.specs.List.{list_all, prefix_len};
 ghost use Rattle.lp_verilog.specs.Lexical.{is_inner, is_number_byte, is_visible, is_constant_byte};
 ghost use Rattle.lp_verilog.specs.Cutting.{word_lexeme, word_front, quoted_front, number_front, number_at, escaped_front, escaped_at, directive_front, mark_of, front_of, placed, piece_behind, piece_of};
 ghost use Rattle.lp_verilog.specs.View.{lexeme_view, front_view, piece_view};
 
+use crate::ascii::text_of;
 use crate::bytes::{constant_len, inner_len, is_blank, is_lead, number_len, visible_len};
 use crate::constant::{constant_of, number_of};
 use crate::gap::gap_len;
 use crate::reserved::{is_reserved, reserved_token};
 use crate::token::{Front, Lexeme, Mark, Piece, Token};
 
+#[tactic(auto, using(crate::proofs::Visible::inner_visible))]
 fn word_lexeme(word: &[u8]) -> Lexeme<'_>
+    requires { IsTrue (list_all is_inner word.now) }
     ensures { lexeme_view result ≡ word_lexeme word.now }
 {
     if is_reserved(word) {
         Lexeme::Plain(reserved_token(word))
     } else {
-        Lexeme::Named(word)
+        Lexeme::Named(text_of(word))
     }
 }
 
 /// The word at the front.
+#[tactic(auto, using(crate::proofs::Visible::front_passes))]
 fn word_front(text: &[u8]) -> Front<'_>
     ensures { front_view result ≡ word_front text.now }
 {
@@ -65,14 +69,15 @@ fn number_at(text: &[u8]) -> Front<'_>
 
 /// The name behind a backslash, where a blank ends it.
 fn escaped_front<'a>(name: &'a [u8], rest: &'a [u8]) -> Front<'a>
-    requires { length name.now < 67108865 }
+    requires short { length name.now < 67108865 }
+    requires visible { IsTrue (list_all is_visible name.now) }
     ensures { front_view result ≡ escaped_front (length name.now) name.now rest.now }
 {
     match rest {
         [] => Front::Cut,
         [next, ..] => {
             if is_blank(*next) && 0 < name.len() {
-                Front::Whole(name.len() + 1, Lexeme::Named(name))
+                Front::Whole(name.len() + 1, Lexeme::Named(text_of(name)))
             } else {
                 Front::Whole(1, Lexeme::Plain(Token::Broken))
             }
@@ -80,6 +85,7 @@ fn escaped_front<'a>(name: &'a [u8], rest: &'a [u8]) -> Front<'a>
     }
 }
 
+#[tactic(auto, using(crate::proofs::Visible::front_passes))]
 fn escaped_at(rest: &[u8]) -> Front<'_>
     requires { length rest.now < 67108865 }
     ensures { front_view result ≡ escaped_at rest.now }
@@ -143,7 +149,9 @@ fn front_of<'a>(text: &'a [u8], first: u8, rest: &'a [u8]) -> Front<'a>
 }
 
 fn placed<'a>(end: usize, gap: usize, front: Front<'a>) -> Piece<'a>
-    ensures { piece_view result ≡ placed end gap (front_view front.entry) }
+    requires { gap ≤ end }
+    ensures gap { result.gap ≤ end }
+    ensures piece { piece_view result ≡ placed end gap (front_view front.entry) }
 {
     match front {
         Front::Whole(size, lexeme) => Piece { gap, size, lexeme },
@@ -156,8 +164,10 @@ fn placed<'a>(end: usize, gap: usize, front: Front<'a>) -> Piece<'a>
 }
 
 fn piece_behind<'a>(end: usize, gap: usize, text: &'a [u8]) -> Option<Piece<'a>>
-    requires { length text.now < 67108865 }
-    ensures { option_map piece_view result ≡ piece_behind end gap text.now }
+    requires short { length text.now < 67108865 }
+    requires within { gap ≤ end }
+    ensures piece { option_map piece_view result ≡ piece_behind end gap text.now }
+    ensures gap { IfSome result (λ p. p.gap ≤ end) }
 {
     match text {
         [] => None,
@@ -168,7 +178,8 @@ fn piece_behind<'a>(end: usize, gap: usize, text: &'a [u8]) -> Option<Piece<'a>>
 /// The first token of a text and the gap before it, none where there is only a gap.
 pub(crate) fn piece_of<'a>(fresh: bool, text: &'a [u8]) -> Option<Piece<'a>>
     requires { length text.now < 67108865 }
-    ensures { option_map piece_view result ≡ piece_of fresh text.now }
+    ensures piece { option_map piece_view result ≡ piece_of fresh text.now }
+    ensures gap { IfSome result (λ p. p.gap ≤ length text.now) }
 {
     match gap_len(fresh, text) {
         None => Some(placed(text.len(), 0, Front::Cut)),

@@ -1,6 +1,7 @@
 //! Structural Verilog netlists (IEEE 1364-2005, the subset that is read).
 #![tactic(auto)]
 
+mod ascii;
 mod bit_list;
 mod bytes;
 mod constant;
@@ -10,7 +11,9 @@ mod front;
 mod gap;
 mod grammar;
 mod name_set;
+mod naming;
 mod reader;
+mod reading;
 mod reserved;
 mod scope;
 mod stepping;

@@ -63,7 +63,7 @@ pub(crate) enum Token {
 #[derive(Clone, Copy, Debug)]
 pub(crate) enum Lexeme<'a> {
     /// A name.
-    Named(&'a [u8]),
+    Named(&'a str),
     /// Another token.
     Plain(Token),
 }
