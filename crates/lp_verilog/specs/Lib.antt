@@ -12,3 +12,4 @@ pub mod Machine
 pub mod Reading
 pub mod Answers
 pub mod Denotes
+pub mod Refusing

@@ -24,5 +24,9 @@ fn are_visible(bytes: &[u8]) -> bool
 pub(crate) fn shown(bytes: &[u8]) -> &str
     ensures { result.now ≡ shown bytes.now }
 {
-    if are_visible(bytes) { text_of(bytes) } else { "" }
+    if are_visible(bytes) {
+        text_of(bytes)
+    } else {
+        ""
+    }
 }

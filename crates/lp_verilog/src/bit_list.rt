@@ -35,7 +35,11 @@ fn index_at(up: bool, first: u32, steps: u32) -> u32
     requires { IsTrue up → first + steps < 4294967296 }
     ensures { result ≡ (if up then first + steps else first - steps) }
 {
-    if up { first + steps } else { first.saturating_sub(steps) }
+    if up {
+        first + steps
+    } else {
+        first.saturating_sub(steps)
+    }
 }
 
 impl BitList {

@@ -52,10 +52,7 @@ fn number_front<'a>(run: &[u8], rest: &'a [u8]) -> Front<'a>
 {
     match rest {
         [b'\'', body @ ..] => quoted_front(run.len(), run, body),
-        _ => Front::Whole(
-            run.len(),
-            Lexeme::Plain(Token::Number(number_of(run))),
-        ),
+        _ => Front::Whole(run.len(), Lexeme::Plain(Token::Number(number_of(run)))),
     }
 }
 

@@ -145,5 +145,9 @@ pub(crate) fn gap_len(fresh: bool, text: &[u8]) -> Option<usize>
             Some(next) => mode = next,
         }
     }
-    if is_open(mode) { None } else { Some(text.len()) }
+    if is_open(mode) {
+        None
+    } else {
+        Some(text.len())
+    }
 }

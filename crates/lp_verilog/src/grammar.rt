@@ -2,7 +2,6 @@ ghost use Rattle.std.specs.Prelude.{◌≡◌, []};
 ghost use Rattle.std.specs.Option.{option_map};
 ghost use Rattle.lp_verilog.specs.View.{production_view};
 ghost use Rattle.lp_verilog.specs.Grammar.{rule, production, is_same_mark, on_mark, on_value, on_bound, on_source, on_module_name, on_header, on_ports, on_ports_more, on_port_name, on_header_more, on_header_port, on_declared, on_vector, on_declared_name, on_items, on_declared_more, on_instance_name, on_instance_more, on_connections, on_named_more, on_connection_name, on_named_value, on_named_end, on_ordered_more, on_tail, on_concat_more, on_index_more, on_assign_sign, on_assign_more};
-
 ghost use Rattle.lp_verilog.specs.declared.symbol.Action.TheVariants as actions;
 
 use crate::symbol::{Action, Symbol};
@@ -25,7 +24,15 @@ fn source(token: Token) -> Option<Production>
     ensures { option_map production_view result ≡ on_source token }
 {
     match token {
-        Token::Keyword(Keyword::Module) => rule(Action::Pass, &[Symbol::ModuleName, Symbol::Header, Symbol::Items, Symbol::Source]),
+        Token::Keyword(Keyword::Module) => rule(
+            Action::Pass,
+            &[
+                Symbol::ModuleName,
+                Symbol::Header,
+                Symbol::Items,
+                Symbol::Source,
+            ],
+        ),
         _ => None,
     }
 }
@@ -44,7 +51,10 @@ fn header(token: Token) -> Option<Production>
 {
     match token {
         Token::Mark(Mark::Semicolon) => rule(Action::Pass, &[]),
-        Token::Mark(Mark::Open) => rule(Action::Pass, &[Symbol::Ports, Symbol::Expect(Mark::Semicolon)]),
+        Token::Mark(Mark::Open) => rule(
+            Action::Pass,
+            &[Symbol::Ports, Symbol::Expect(Mark::Semicolon)],
+        ),
         _ => None,
     }
 }
@@ -55,7 +65,10 @@ fn ports(token: Token) -> Option<Production>
     match token {
         Token::Mark(Mark::Close) => rule(Action::Pass, &[]),
         Token::Name(_) => rule(Action::ListPort, &[Symbol::PortsMore]),
-        Token::Keyword(Keyword::Input | Keyword::Output) => rule(Action::HeaderDirection, &[Symbol::Declared, Symbol::HeaderMore]),
+        Token::Keyword(Keyword::Input | Keyword::Output) => rule(
+            Action::HeaderDirection,
+            &[Symbol::Declared, Symbol::HeaderMore],
+        ),
         _ => None,
     }
 }
@@ -93,7 +106,10 @@ fn header_port(token: Token) -> Option<Production>
     ensures { option_map production_view result ≡ on_header_port token }
 {
     match token {
-        Token::Keyword(Keyword::Input | Keyword::Output) => rule(Action::HeaderDirection, &[Symbol::Declared]),
+        Token::Keyword(Keyword::Input | Keyword::Output) => rule(
+            Action::HeaderDirection,
+            &[Symbol::Declared],
+        ),
         Token::Name(_) => rule(Action::Declare, &[]),
         _ => None,
     }
@@ -104,7 +120,16 @@ fn declared(token: Token) -> Option<Production>
 {
     match token {
         Token::Keyword(Keyword::Wire) => rule(Action::Pass, &[Symbol::Vector]),
-        Token::Mark(Mark::OpenBracket) => rule(Action::Pass, &[Symbol::LeftBound, Symbol::Expect(Mark::Colon), Symbol::RightBound, Symbol::Expect(Mark::CloseBracket), Symbol::DeclaredName]),
+        Token::Mark(Mark::OpenBracket) => rule(
+            Action::Pass,
+            &[
+                Symbol::LeftBound,
+                Symbol::Expect(Mark::Colon),
+                Symbol::RightBound,
+                Symbol::Expect(Mark::CloseBracket),
+                Symbol::DeclaredName,
+            ],
+        ),
         Token::Name(_) => rule(Action::Declare, &[]),
         _ => None,
     }
@@ -114,7 +139,16 @@ fn vector(token: Token) -> Option<Production>
     ensures { option_map production_view result ≡ on_vector token }
 {
     match token {
-        Token::Mark(Mark::OpenBracket) => rule(Action::Pass, &[Symbol::LeftBound, Symbol::Expect(Mark::Colon), Symbol::RightBound, Symbol::Expect(Mark::CloseBracket), Symbol::DeclaredName]),
+        Token::Mark(Mark::OpenBracket) => rule(
+            Action::Pass,
+            &[
+                Symbol::LeftBound,
+                Symbol::Expect(Mark::Colon),
+                Symbol::RightBound,
+                Symbol::Expect(Mark::CloseBracket),
+                Symbol::DeclaredName,
+            ],
+        ),
         Token::Name(_) => rule(Action::Declare, &[]),
         _ => None,
     }
@@ -134,10 +168,28 @@ fn items(token: Token) -> Option<Production>
 {
     match token {
         Token::Keyword(Keyword::EndModule) => rule(Action::EndModule, &[]),
-        Token::Keyword(Keyword::Input | Keyword::Output) => rule(Action::ItemDirection, &[Symbol::Declared, Symbol::DeclaredMore, Symbol::Items]),
-        Token::Keyword(Keyword::Wire) => rule(Action::ItemWires, &[Symbol::Vector, Symbol::DeclaredMore, Symbol::Items]),
-        Token::Keyword(Keyword::Assign) => rule(Action::BeginAssign, &[Symbol::Value, Symbol::AssignSign, Symbol::Value, Symbol::AssignMore, Symbol::Items]),
-        Token::Name(_) => rule(Action::Target, &[Symbol::InstanceName, Symbol::InstanceMore, Symbol::Items]),
+        Token::Keyword(Keyword::Input | Keyword::Output) => rule(
+            Action::ItemDirection,
+            &[Symbol::Declared, Symbol::DeclaredMore, Symbol::Items],
+        ),
+        Token::Keyword(Keyword::Wire) => rule(
+            Action::ItemWires,
+            &[Symbol::Vector, Symbol::DeclaredMore, Symbol::Items],
+        ),
+        Token::Keyword(Keyword::Assign) => rule(
+            Action::BeginAssign,
+            &[
+                Symbol::Value,
+                Symbol::AssignSign,
+                Symbol::Value,
+                Symbol::AssignMore,
+                Symbol::Items,
+            ],
+        ),
+        Token::Name(_) => rule(
+            Action::Target,
+            &[Symbol::InstanceName, Symbol::InstanceMore, Symbol::Items],
+        ),
         _ => None,
     }
 }
@@ -146,7 +198,10 @@ fn declared_more(token: Token) -> Option<Production>
     ensures { option_map production_view result ≡ on_declared_more token }
 {
     match token {
-        Token::Mark(Mark::Comma) => rule(Action::Pass, &[Symbol::DeclaredName, Symbol::DeclaredMore]),
+        Token::Mark(Mark::Comma) => rule(
+            Action::Pass,
+            &[Symbol::DeclaredName, Symbol::DeclaredMore],
+        ),
         Token::Mark(Mark::Semicolon) => rule(Action::Pass, &[]),
         _ => None,
     }
@@ -156,7 +211,10 @@ fn instance_name(token: Token) -> Option<Production>
     ensures { option_map production_view result ≡ on_instance_name token }
 {
     match token {
-        Token::Name(_) => rule(Action::BeginInstance, &[Symbol::Expect(Mark::Open), Symbol::Connections]),
+        Token::Name(_) => rule(
+            Action::BeginInstance,
+            &[Symbol::Expect(Mark::Open), Symbol::Connections],
+        ),
         _ => None,
     }
 }
@@ -165,7 +223,10 @@ fn instance_more(token: Token) -> Option<Production>
     ensures { option_map production_view result ≡ on_instance_more token }
 {
     match token {
-        Token::Mark(Mark::Comma) => rule(Action::Pass, &[Symbol::InstanceName, Symbol::InstanceMore]),
+        Token::Mark(Mark::Comma) => rule(
+            Action::Pass,
+            &[Symbol::InstanceName, Symbol::InstanceMore],
+        ),
         Token::Mark(Mark::Semicolon) => rule(Action::Pass, &[]),
         _ => None,
     }
@@ -177,7 +238,10 @@ fn value(token: Token) -> Option<Production>
     match token {
         Token::Name(_) => rule(Action::StartValue, &[Symbol::Tail]),
         Token::Constant(_, _) => rule(Action::StartValue, &[]),
-        Token::Mark(Mark::OpenBrace) => rule(Action::StartValue, &[Symbol::Value, Symbol::ConcatMore]),
+        Token::Mark(Mark::OpenBrace) => rule(
+            Action::StartValue,
+            &[Symbol::Value, Symbol::ConcatMore],
+        ),
         _ => None,
     }
 }
@@ -190,7 +254,10 @@ fn connections(token: Token) -> Option<Production>
         Token::Mark(Mark::Dot) => rule(Action::Pass, &[Symbol::ConnectionName, Symbol::NamedMore]),
         Token::Name(_) => rule(Action::FirstOrdered, &[Symbol::Tail, Symbol::OrderedMore]),
         Token::Constant(_, _) => rule(Action::FirstOrdered, &[Symbol::OrderedMore]),
-        Token::Mark(Mark::OpenBrace) => rule(Action::FirstOrdered, &[Symbol::Value, Symbol::ConcatMore, Symbol::OrderedMore]),
+        Token::Mark(Mark::OpenBrace) => rule(
+            Action::FirstOrdered,
+            &[Symbol::Value, Symbol::ConcatMore, Symbol::OrderedMore],
+        ),
         _ => None,
     }
 }
@@ -199,7 +266,14 @@ fn named_more(token: Token) -> Option<Production>
     ensures { option_map production_view result ≡ on_named_more token }
 {
     match token {
-        Token::Mark(Mark::Comma) => rule(Action::Pass, &[Symbol::Expect(Mark::Dot), Symbol::ConnectionName, Symbol::NamedMore]),
+        Token::Mark(Mark::Comma) => rule(
+            Action::Pass,
+            &[
+                Symbol::Expect(Mark::Dot),
+                Symbol::ConnectionName,
+                Symbol::NamedMore,
+            ],
+        ),
         Token::Mark(Mark::Close) => rule(Action::EndInstance, &[]),
         _ => None,
     }
@@ -209,7 +283,10 @@ fn connection_name(token: Token) -> Option<Production>
     ensures { option_map production_view result ≡ on_connection_name token }
 {
     match token {
-        Token::Name(_) => rule(Action::ConnectionName, &[Symbol::Expect(Mark::Open), Symbol::NamedValue]),
+        Token::Name(_) => rule(
+            Action::ConnectionName,
+            &[Symbol::Expect(Mark::Open), Symbol::NamedValue],
+        ),
         _ => None,
     }
 }
@@ -221,7 +298,10 @@ fn named_value(token: Token) -> Option<Production>
         Token::Mark(Mark::Close) => rule(Action::EndNamed, &[]),
         Token::Name(_) => rule(Action::StartValue, &[Symbol::Tail, Symbol::NamedEnd]),
         Token::Constant(_, _) => rule(Action::StartValue, &[Symbol::NamedEnd]),
-        Token::Mark(Mark::OpenBrace) => rule(Action::StartValue, &[Symbol::Value, Symbol::ConcatMore, Symbol::NamedEnd]),
+        Token::Mark(Mark::OpenBrace) => rule(
+            Action::StartValue,
+            &[Symbol::Value, Symbol::ConcatMore, Symbol::NamedEnd],
+        ),
         _ => None,
     }
 }
@@ -239,7 +319,10 @@ fn ordered_more(token: Token) -> Option<Production>
     ensures { option_map production_view result ≡ on_ordered_more token }
 {
     match token {
-        Token::Mark(Mark::Comma) => rule(Action::NextOrdered, &[Symbol::Value, Symbol::OrderedMore]),
+        Token::Mark(Mark::Comma) => rule(
+            Action::NextOrdered,
+            &[Symbol::Value, Symbol::OrderedMore],
+        ),
         Token::Mark(Mark::Close) => rule(Action::LastOrdered, &[]),
         _ => None,
     }
@@ -269,7 +352,10 @@ fn index_more(token: Token) -> Option<Production>
 {
     match token {
         Token::Mark(Mark::CloseBracket) => rule(Action::OneBit, &[]),
-        Token::Mark(Mark::Colon) => rule(Action::Pass, &[Symbol::SecondIndex, Symbol::Expect(Mark::CloseBracket)]),
+        Token::Mark(Mark::Colon) => rule(
+            Action::Pass,
+            &[Symbol::SecondIndex, Symbol::Expect(Mark::CloseBracket)],
+        ),
         _ => None,
     }
 }
@@ -287,7 +373,15 @@ fn assign_more(token: Token) -> Option<Production>
     ensures { option_map production_view result ≡ on_assign_more token }
 {
     match token {
-        Token::Mark(Mark::Comma) => rule(Action::NextAssign, &[Symbol::Value, Symbol::AssignSign, Symbol::Value, Symbol::AssignMore]),
+        Token::Mark(Mark::Comma) => rule(
+            Action::NextAssign,
+            &[
+                Symbol::Value,
+                Symbol::AssignSign,
+                Symbol::Value,
+                Symbol::AssignMore,
+            ],
+        ),
         Token::Mark(Mark::Semicolon) => rule(Action::LastAssign, &[]),
         _ => None,
     }

@@ -10,8 +10,10 @@ mod draft;
 mod front;
 mod gap;
 mod grammar;
+mod laws;
 mod name_set;
 mod naming;
+mod netlist;
 mod reader;
 mod reading;
 mod reserved;
@@ -21,3 +23,9 @@ mod stop;
 mod symbol;
 mod token;
 mod value;
+
+pub use laws::one_netlist;
+pub use netlist::read_netlist;
+
+#[cfg(test)]
+mod tests;

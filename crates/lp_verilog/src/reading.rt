@@ -3,7 +3,6 @@ ghost use Rattle.lp_text.specs.Texts.{Grown};
 ghost use Rattle.lp_verilog.specs.Reading.{Reading, read_rest, turned, ending};
 ghost use Rattle.lp_verilog.specs.Machine.{start, step};
 ghost use Rattle.lp_verilog.specs.Answers.{Takes, GoesOn, Finishes, IsReading};
-
 ghost use Rattle.lp_verilog.specs.View.{piece_view};
 ghost use Rattle.lp_verilog.specs.declared.reader.Reader.{Reader};
 
@@ -130,10 +129,13 @@ pub(crate) fn read_modules<'a>(
     for byte in bytes {
         match piece_of(fresh, rest) {
             None => return finish(reader, bytes.len()),
-            Some(piece) => {
-                rest = turn(alloc, names, &mut reader, bytes.len(), rest, piece)?;
-                fresh = false;
-            }
+            Some(piece) => match turn(alloc, names, &mut reader, bytes.len(), rest, piece) {
+                Ok(behind) => {
+                    rest = behind;
+                    fresh = false;
+                }
+                Err(halt) => return Err(halt),
+            },
         }
     }
     finish(reader, bytes.len())

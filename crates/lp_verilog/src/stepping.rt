@@ -16,7 +16,10 @@ use std::alloc::Global;
 fn takes_value(symbol: Symbol) -> bool
     ensures { result ≡ takes_value symbol }
 {
-    matches!(symbol, Symbol::Value | Symbol::NamedValue | Symbol::Connections)
+    matches!(
+        symbol,
+        Symbol::Value | Symbol::NamedValue | Symbol::Connections
+    )
 }
 
 fn unread_at(symbol: Symbol, side: Side) -> Off
