@@ -1,16 +1,14 @@
 -- What is read is what the text denotes, in the table of names at the end.
-use Rattle.std.proofs.Common.{◌≡◌, ℕ, zero, suc, ◌+◌, ◌-◌, ◌<◌, ◌≤◌, Bool, true, false, List, [], ◌∷◌, ◌++◌, length, drop, Option, Some, None, refl, sym, ap, ◌∙◌, subst, arith, append_assoc}
+use Rattle.std.proofs.Common.{◌≡◌, ℕ, ◌+◌, ◌-◌, ◌<◌, ◌≤◌, Bool, true, false, List, [], ◌∷◌, ◌++◌, length, drop, Option, Some, None, refl, sym, ap, ◌∙◌, subst, arith, append_assoc}
 use Rattle.std.specs.Prelude.{unwrap_or, max, is_some, if◌then◌else◌}
 use Rattle.std.proofs.lemmas.List.{append-nil, length-drop}
 use Rattle.lp_text.specs.Texts.{Grown, place_of, has_text, with_text, place_of-append_left, place_of-push, is_some-place_of}
-use Rattle.lp_model.specs.declared.netlist.Module.{Module}
 use Rattle.lp_verilog.specs.declared.token.Token.TheVariants as tokens
 use Rattle.lp_verilog.specs.declared.reader.Reader.{Reader}
-use Rattle.lp_verilog.specs.declared.stop.Off.{Off}
 use Rattle.lp_verilog.specs.Cutting.{Lexeme, Named, Plain, Piece, piece_of}
 use Rattle.lp_verilog.specs.Verdicts.{Verdict, Goes, Stops}
 use Rattle.lp_verilog.specs.Machine.{start, step}
-use Rattle.lp_verilog.specs.Reading.{Reading, Outcome, Whole, Left, ending, ended, behind, piece_bytes, turned, stepped, read_rest, token_in, names_with, number_in}
+use Rattle.lp_verilog.specs.Reading.{Outcome, Left, behind, piece_bytes, turned, stepped, read_rest, token_in, names_with}
 use Rattle.lp_verilog.specs.Denotes.{numbered, is_known, Follows, Leads, LeadsTo}
 
 pub grown_same : (names : List (List ℕ)) → Grown names names
@@ -120,7 +118,7 @@ module _ (names : List (List ℕ)) (size : ℕ) where
   follow_one xs ys at bytes rest a b (Goes n) more h k = more n h k
   follow_one xs ys at bytes rest a b (Stops off) more h k = h.1 ∙ sym k.1
 
-  leads_one : (xs ys : List Piece) (fresh : Bool) (rest : List ℕ) (m : Reader) (a b : Outcome) → Leads names size xs fresh rest m a → Leads names size ys fresh rest m b → a ≡ b
+  pub leads_one : (xs ys : List Piece) (fresh : Bool) (rest : List ℕ) (m : Reader) (a b : Outcome) → Leads names size xs fresh rest m a → Leads names size ys fresh rest m b → a ≡ b
   leads_one [] [] fresh rest m a b h k = h.1 ∙ sym k.1
   leads_one [] (q ∷ ys) fresh rest m a b h k = let no : None ≡ Some q = sym h.0 ∙ k.0 in absurd cc
   leads_one (p ∷ xs) [] fresh rest m a b h k = let no : None ≡ Some p = sym k.0 ∙ h.0 in absurd cc

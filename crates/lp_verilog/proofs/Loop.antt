@@ -1,12 +1,12 @@
 -- One step of the loop that reads a text.
-use Rattle.std.proofs.Common.{◌≡◌, ℕ, suc, ◌+◌, ◌-◌, ◌<◌, Bool, true, false, List, [], ◌∷◌, length, drop, get_or, Option, Some, None, Result, Ok, Err, refl, sym, ap, ◌∙◌, subst, arith}
+use Rattle.std.proofs.Common.{◌≡◌, ℕ, suc, ◌+◌, ◌<◌, Bool, false, List, [], ◌∷◌, length, drop, get_or, Some, None, Result, Ok, Err, refl, sym, ap, ◌∙◌, subst, arith}
 use Rattle.std.proofs.Math.Seq.{drop-cons}
 use Rattle.lp_model.specs.declared.netlist.Module.{Module}
 use Rattle.lp_verilog.specs.declared.reader.Reader.{Reader}
 use Rattle.lp_verilog.specs.declared.reading.Halt.{Halt}
 use Rattle.lp_verilog.specs.declared.reading.Halt.TheVariants as halts
 use Rattle.lp_verilog.specs.Cutting.{Piece, piece_of}
-use Rattle.lp_verilog.specs.Reading.{Reading, Outcome, Whole, Left, ending, ended, turned, read_rest}
+use Rattle.lp_verilog.specs.Reading.{Reading, ending, ended, turned, read_rest}
 use Rattle.lp_verilog.specs.Answers.{Halts, Finishes, IsReading}
 
 at_end : (fuel : List ℕ) (size : ℕ) (fresh : Bool) (rest : List ℕ) (names : List (List ℕ)) (m : Reader) → piece_of fresh rest ≡ None → read_rest fuel size fresh rest names m ≡ ended size names m

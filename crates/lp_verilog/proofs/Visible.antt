@@ -1,6 +1,6 @@
 -- Names are visible bytes.
 use Rattle.std.proofs.Common.{◌≡◌, ℕ, suc, ◌+◌, ◌<◌, Bool, true, false, List, [], ◌∷◌, take, Result, Ok, Err, refl, arith}
-use Rattle.std.specs.Prelude.{◌&&◌, IsTrue, IsOk, MatchResult, cond}
+use Rattle.std.specs.Prelude.{IsTrue, IsOk, MatchResult, cond}
 use Rattle.std.specs.List.{list_all, prefix_len}
 use Rattle.std.specs.Str.{IsAscii}
 use Rattle.std.proofs.lemmas.Bool.{and_parts, and_from}

@@ -1,10 +1,9 @@
 -- A reserved word is one of those that begin with its first byte.
 use Rattle.std.proofs.Common.{◌≡◌, ℕ, ◌<◌, Bool, true, false, List, [], ◌∷◌, refl, sym, ap, length, map, get_or, ◌≤◌, ◌∙◌, inl, inr, arith}
 use Rattle.std.specs.Prelude.{◌&&◌, ◌==◌, bytes_eq, if◌then◌else◌, zero, suc}
-use Rattle.std.specs.List.{list_any, list_all}
-use Rattle.std.proofs.lemmas.Bool.{and_parts, cases_eq, cases_Bool, false_from_ne_true}
-use Rattle.std.proofs.lemmas.Slice.Eq.{bytes_eq-Decides}
-use Rattle.lp_text.specs.Texts.{has_text, same_text, same_text-true, true-same_text, same_text_comm}
+use Rattle.std.specs.List.{list_any}
+use Rattle.std.proofs.lemmas.Bool.{and_parts, cases_eq, false_from_ne_true}
+use Rattle.lp_text.specs.Texts.{has_text, same_text, same_text-true, same_text_comm}
 use Rattle.lp_verilog.specs.Reserved.{reserved_words, words_from}
 
 abbrev pub begins : ℕ → List ℕ → Bool

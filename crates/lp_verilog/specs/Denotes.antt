@@ -1,8 +1,6 @@
 -- What a text denotes: its tokens lead from the start of the grammar to a list of modules, or to the first token that
 -- cannot stand where it does. Names are numbers of a table.
-use Rattle.std.specs.Prelude.{◌≡◌, ℕ, ◌+◌, ◌-◌, Bool, true, false, ◌&&◌, List, [], ◌∷◌, length, unwrap_or, Option, Some, None, IsTrue}
-use Rattle.std.specs.List.{list_all}
-use Rattle.lp_text.specs.declared.names.NameId.{NameId}
+use Rattle.std.specs.Prelude.{◌≡◌, ℕ, ◌+◌, ◌-◌, Bool, true, false, List, [], ◌∷◌, length, unwrap_or, Some, None}
 use Rattle.lp_text.specs.Texts.{place_of, has_text}
 use Rattle.lp_model.specs.declared.netlist.Module.{Module}
 use Rattle.lp_verilog.specs.declared.token.Token.{Token}
@@ -11,12 +9,12 @@ use Rattle.lp_verilog.specs.declared.reader.Reader.{Reader}
 use Rattle.lp_verilog.specs.Cutting.{Lexeme, Named, Plain, Piece, piece_of}
 use Rattle.lp_verilog.specs.Verdicts.{Verdict, Goes, Stops}
 use Rattle.lp_verilog.specs.Machine.{start, step}
-use Rattle.lp_verilog.specs.Reading.{Outcome, Whole, Left, ending, behind, piece_bytes}
+use Rattle.lp_verilog.specs.Reading.{Outcome, Whole, Left, ending, behind, piece_bytes, unnamed}
 
 -- a token whose name is numbered by a table
 abbrev pub numbered : List (List ℕ) → Lexeme → Token
 numbered names (Named text) = tokens.Name (record { 0 = unwrap_or (place_of text names) 0 })
-numbered names (Plain token) = token
+numbered names (Plain token) = unnamed token
 
 -- a name of the table, or no name
 abbrev pub is_known : List (List ℕ) → Lexeme → Bool

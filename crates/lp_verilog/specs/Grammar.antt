@@ -3,7 +3,7 @@
 -- A production of a symbol begins with a token, and then come the symbols that follow it. No two productions of a
 -- symbol begin with the same token. `Tail` alone may also be nothing: it is that before every token but `[`.
 -- Each production says what its token does to the netlist.
-use Rattle.std.specs.Prelude.{ℕ, Bool, true, false, ◌&&◌, List, [], ◌∷◌, Option, Some, None}
+use Rattle.std.specs.Prelude.{Bool, true, false, List, [], ◌∷◌, Option, Some, None}
 use Rattle.lp_verilog.specs.declared.token.Token.{Token}
 use Rattle.lp_verilog.specs.declared.token.Token.TheVariants.{Keyword, Name, Number, Constant, Unread, Foreign, Broken}
 use Rattle.lp_verilog.specs.declared.token.Token.TheVariants as tokens

@@ -1,5 +1,5 @@
 -- Which bytes tokens have (IEEE 1364-2005, lexical conventions).
-use Rattle.std.specs.Prelude.{ℕ, Bool, ◌&&◌, ◌||◌, ◌==◌, nat_le, List, [], ◌∷◌}
+use Rattle.std.specs.Prelude.{ℕ, Bool, ◌&&◌, ◌||◌, ◌==◌, nat_le, [], ◌∷◌}
 use Rattle.std.specs.List.{list_any}
 
 abbrev pub is_between : ℕ → ℕ → ℕ → Bool

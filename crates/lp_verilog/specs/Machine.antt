@@ -5,7 +5,6 @@ use Rattle.indexmap.specs.IndexSet.{insert_key}
 use Rattle.lp_text.specs.declared.names.NameId.{NameId}
 use Rattle.lp_model.specs.declared.netlist.Direction.{Direction}
 use Rattle.lp_model.specs.declared.netlist.Direction.TheVariants as directions
-use Rattle.lp_model.specs.declared.netlist.Module as model
 use Rattle.lp_verilog.specs.declared.token.Token.{Token}
 use Rattle.lp_verilog.specs.declared.token.Token.TheVariants.{Keyword, Name, Number, Constant, Unread, Foreign, Broken}
 use Rattle.lp_verilog.specs.declared.token.Token.TheVariants as tokens

@@ -1,7 +1,6 @@
 -- How a text is read: token by token, the names numbered in a table.
-use Rattle.std.specs.Prelude.{ℕ, ◌+◌, ◌-◌, Bool, true, false, List, [], ◌∷◌, length, take, drop, Option, Some, None, unwrap_or, max, if◌then◌else◌}
+use Rattle.std.specs.Prelude.{ℕ, ◌+◌, ◌-◌, Bool, false, List, [], ◌∷◌, length, take, drop, Option, Some, None, unwrap_or, max, if◌then◌else◌}
 use Rattle.std.specs.List.{list_all}
-use Rattle.lp_text.specs.declared.names.NameId.{NameId}
 use Rattle.lp_text.specs.Texts.{place_of, with_text}
 use Rattle.lp_model.specs.declared.netlist.Module.{Module}
 use Rattle.lp_verilog.specs.declared.token.Token.{Token}
@@ -18,9 +17,14 @@ use Rattle.lp_verilog.specs.Machine.{step, accepts}
 abbrev pub number_in : List (List ℕ) → List ℕ → ℕ
 number_in names text = unwrap_or (place_of text (with_text names text)) 0
 
+-- a token that is no name
+abbrev pub unnamed : Token → Token
+unnamed (tokens.Name n) = tokens.Broken
+unnamed token = token
+
 abbrev pub token_in : List (List ℕ) → Lexeme → Token
 token_in names (Named text) = tokens.Name (record { 0 = number_in names text })
-token_in names (Plain token) = token
+token_in names (Plain token) = unnamed token
 
 abbrev pub names_with : List (List ℕ) → Lexeme → List (List ℕ)
 names_with names (Named text) = with_text names text

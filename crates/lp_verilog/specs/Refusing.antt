@@ -1,19 +1,19 @@
 -- What the reader of netlists answers.
-use Rattle.std.specs.Prelude.{◌≡◌, ◌<◌, ◌≤◌, ◌⊎◌, ℕ, List, length, unwrap_or, Result, Ok, Err}
-use Rattle.lp_text.specs.declared.names.NameId.{NameId}
+use Rattle.std.specs.Prelude.{◌≡◌, ◌<◌, ◌≤◌, ◌⊎◌, ℕ, List, length, unwrap_or}
 use Rattle.lp_text.specs.Texts.{place_of}
 use Rattle.lp_text.specs.Places.{place_in}
-use Rattle.lp_model.specs.declared.netlist.Netlist.{Netlist}
 use Rattle.lp_model.specs.declared.fault.netlist.NetlistFault.{NetlistFault}
 use Rattle.lp_model.specs.declared.fault.netlist.NetlistFault.TheVariants as faults
 use Rattle.lp_model.specs.declared.fault.netlist.NetlistLimit.TheVariants as limits
 use Rattle.lp_model.specs.declared.fault.refusal.Refusal.{Refusal}
 use Rattle.lp_model.specs.declared.fault.refusal.Refusal.TheVariants as refusals
 use Rattle.lp_model.specs.Refusals.{netlist_refusal}
+use Rattle.lp_model.specs.NetlistView.{ModuleView}
+use Rattle.lp_verilog.specs.Reads.{Reads}
 use Rattle.lp_verilog.specs.declared.stop.Off.{Off}
 use Rattle.lp_verilog.specs.declared.stop.Off.TheVariants as offs
 use Rattle.lp_verilog.specs.Reading.{Left}
-use Rattle.lp_verilog.specs.Denotes.{LeadsTo, Denotes}
+use Rattle.lp_verilog.specs.Denotes.{LeadsTo}
 
 -- the fault of a token at a byte, in this text
 abbrev pub fault_of : List (List ℕ) → List ℕ → ℕ → List ℕ → Off → NetlistFault
@@ -45,3 +45,8 @@ Refuses names text refusals.NoMemory = Unit {0}
 Refuses names text (refusals.Fault fault) =
     ((67108864 < length text) × (refusals.Fault fault ≡ too_long))
     ⊎ ((length text ≤ 67108864) × StopsAt names text (refusals.Fault fault))
+
+-- a text that is not too long and is refused denotes no netlist
+abbrev pub HasNone : List ℕ → Refusal → Type 0
+HasNone text refusals.NoMemory = Unit {0}
+HasNone text (refusals.Fault fault) = length text ≤ 67108864 → (view : List ModuleView) → Reads text view → ⊥

@@ -1,6 +1,6 @@
 -- The reserved words of IEEE 1364-2005, annex B, and what a word is.
 use Rattle.std.specs.Prelude.{ℕ, List, [], ◌∷◌, ◌==◌, if◌then◌else◌, codes}
-use Rattle.lp_text.specs.Texts.{same_text, has_text}
+use Rattle.lp_text.specs.Texts.{same_text}
 use Rattle.lp_verilog.specs.declared.token.Token.{Token}
 use Rattle.lp_verilog.specs.declared.token.Token.TheVariants as tokens
 use Rattle.lp_verilog.specs.declared.token.Keyword.TheVariants as keywords

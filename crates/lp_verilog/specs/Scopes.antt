@@ -14,7 +14,6 @@ use Rattle.lp_verilog.specs.declared.scope.Entry.{Entry}
 use Rattle.lp_verilog.specs.declared.declaring.Form.{Form}
 use Rattle.lp_verilog.specs.declared.declaring.Form.TheVariants as forms
 use Rattle.lp_verilog.specs.declared.declaring.Declaring.{Declaring}
-use Rattle.lp_verilog.specs.declared.stop.Off.{Off}
 use Rattle.lp_verilog.specs.declared.stop.Off.TheVariants as offs
 use Rattle.lp_verilog.specs.declared.value.Side.{Side}
 use Rattle.lp_verilog.specs.declared.value.Side.TheVariants as sides

@@ -1,13 +1,10 @@
 -- What each token does to the netlist that is read.
-use Rattle.std.specs.Prelude.{ℕ, Bool, true, false, ◌&&◌, List, [], ◌∷◌, ◌++◌, Option, Some, None, if◌then◌else◌}
+use Rattle.std.specs.Prelude.{ℕ, true, false, ◌&&◌, List, [], ◌∷◌, ◌++◌, Option, Some, None, if◌then◌else◌}
 use Rattle.lp_text.specs.declared.names.NameId.{NameId}
-use Rattle.lp_model.specs.declared.netlist.Direction.TheVariants as directions
 use Rattle.lp_model.specs.declared.netlist.BitRange.{BitRange}
-use Rattle.lp_model.specs.declared.netlist.Connection.{Connection}
 use Rattle.lp_model.specs.declared.netlist.Connections.{Connections}
 use Rattle.lp_model.specs.declared.netlist.Connections.TheVariants.{Named, Ordered}
 use Rattle.lp_model.specs.declared.netlist.Instance.{Instance}
-use Rattle.lp_model.specs.declared.netlist.Assign.{Assign}
 use Rattle.lp_model.specs.declared.netlist.Module.{Module}
 use Rattle.lp_model.specs.declared.bits.Bit.{Bit}
 use Rattle.lp_model.specs.declared.bits.Bit.TheVariants as bits
@@ -21,8 +18,9 @@ use Rattle.lp_verilog.specs.Values.{is_in, goes_along, select, whole, constant_b
 use Rattle.lp_verilog.specs.Scopes.{lacking_of, ports_of, nets_of}
 use Rattle.lp_verilog.specs.Verdicts.{Verdict, Goes, Stops}
 
+-- stands where no name has been read, and is the number of none
 abbrev pub no_name : NameId
-no_name = record { 0 = 0 }
+no_name = record { 0 = 4294967295 }
 
 abbrev pub no_value : Value
 no_value = record { side = sides.Connection; subject = no_name; range = None; index = 0; bits = [] }

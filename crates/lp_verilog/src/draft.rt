@@ -28,9 +28,9 @@ impl Joint {
         ensures { result ≡ no_joint }
     {
         Joint {
-            target: NameId(0),
-            name: NameId(0),
-            port: NameId(0),
+            target: NameId(u32::MAX),
+            name: NameId(u32::MAX),
+            port: NameId(u32::MAX),
             positional: false,
             named: Items::new(alloc),
             ordered: Items::new(alloc),

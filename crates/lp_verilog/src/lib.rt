@@ -24,7 +24,7 @@ mod symbol;
 mod token;
 mod value;
 
-pub use laws::one_netlist;
+pub use laws::{one_netlist, one_outcome};
 pub use netlist::read_netlist;
 
 #[cfg(test)]

@@ -1,6 +1,6 @@
 ghost use Rattle.std.specs.Prelude.{◌≡◌, ◌+◌, ◌<◌, ◌≤◌, length, IfOk, OnOk};
 ghost use Rattle.lp_text.specs.Texts.{Grown, with_text};
-ghost use Rattle.lp_verilog.specs.Reading.{number_in, token_in, names_with};
+ghost use Rattle.lp_verilog.specs.Reading.{number_in, token_in, names_with, unnamed};
 ghost use Rattle.lp_verilog.specs.View.{lexeme_view};
 
 use crate::token::{Lexeme, Token};
@@ -21,6 +21,16 @@ pub(crate) fn intern(names: &mut Names, name: &str) -> Result<NameId, NoMemory>
     }
 }
 
+/// A token that is no name.
+fn unnamed(token: Token) -> Token
+    ensures { result ≡ unnamed token }
+{
+    match token {
+        Token::Name(_) => Token::Broken,
+        _ => token,
+    }
+}
+
 /// The token of a lexeme.
 pub(crate) fn token_of(names: &mut Names, lexeme: Lexeme<'_>) -> Result<Token, NoMemory>
     requires { length names.old < 4294967295 }
@@ -31,6 +41,6 @@ pub(crate) fn token_of(names: &mut Names, lexeme: Lexeme<'_>) -> Result<Token, N
 {
     match lexeme {
         Lexeme::Named(name) => Ok(Token::Name(intern(names, name)?)),
-        Lexeme::Plain(token) => Ok(token),
+        Lexeme::Plain(token) => Ok(unnamed(token)),
     }
 }

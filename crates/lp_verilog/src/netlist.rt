@@ -1,8 +1,10 @@
 ghost use Rattle.std.specs.Prelude.{◌≡◌, ◌+◌, ◌<◌, ◌≤◌, length, IfOk, IfErr, OnOk};
 ghost use Rattle.lp_text.specs.Texts.{Grown};
 ghost use Rattle.lp_text.specs.Places.{place_in};
+ghost use Rattle.lp_model.specs.NetlistView.{netlist_view};
 ghost use Rattle.lp_verilog.specs.Denotes.{Denotes};
-ghost use Rattle.lp_verilog.specs.Refusing.{IsFault, Refuses, fault_of};
+ghost use Rattle.lp_verilog.specs.Reads.{Reads};
+ghost use Rattle.lp_verilog.specs.Refusing.{IsFault, Refuses, HasNone, fault_of};
 
 use crate::naming::intern;
 use crate::reading::{Halt, read_modules};
@@ -58,9 +60,11 @@ fn refusal(names: &mut Names, text: &[u8], off: Off, at: usize, word: &str) -> R
 /// refused. The table may then have grown.
 pub fn read_netlist(alloc: Global, names: &mut Names, bytes: &[u8]) -> Result<Netlist, Refusal>
     requires { length names.old ≤ 3000000000 }
-    ensures ok { IfOk result (λ n. Denotes names.new bytes.now n.modules) }
+    ensures reads { IfOk result (λ n. Reads bytes.now (netlist_view names.new n)) }
+    ensures numbers { IfOk result (λ n. Denotes names.new bytes.now n.modules) }
     ensures short { OnOk result (length bytes.now ≤ 67108864) }
     ensures err { IfErr result (Refuses names.new bytes.now) }
+    ensures none { IfErr result (HasNone bytes.now) }
     ensures grown { Grown names.old names.new }
     ensures few { length names.new ≤ length names.old + length bytes.now + 1 }
 {
@@ -69,9 +73,16 @@ pub fn read_netlist(alloc: Global, names: &mut Names, bytes: &[u8]) -> Result<Ne
             limit: NetlistLimit::Bytes,
         }));
     }
+    // A table says that its texts are distinct where it is counted.
     match read_modules(alloc, names, bytes) {
-        Ok(modules) => Ok(Netlist { modules }),
+        Ok(modules) => {
+            let _ = names.count();
+            Ok(Netlist { modules })
+        }
         Err(Halt::NoMemory) => Err(Refusal::NoMemory),
-        Err(Halt::Left(off, at, word)) => Err(refusal(names, bytes, off, at, word)),
+        Err(Halt::Left(off, at, word)) => {
+            let _ = names.count();
+            Err(refusal(names, bytes, off, at, word))
+        }
     }
 }

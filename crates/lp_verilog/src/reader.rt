@@ -48,7 +48,7 @@ impl Reader {
             waiting,
             modules: Items::new(alloc),
             taken: NameSet::new(alloc),
-            draft: Draft::new(alloc, NameId(0)),
+            draft: Draft::new(alloc, NameId(u32::MAX)),
             declaring: Declaring {
                 form: Form::Wires,
                 direction: Direction::Input,

@@ -56,7 +56,7 @@ impl Value {
     {
         Value {
             side: Side::Connection,
-            subject: NameId(0),
+            subject: NameId(u32::MAX),
             range: None,
             index: 0,
             bits: BitList::new(alloc),

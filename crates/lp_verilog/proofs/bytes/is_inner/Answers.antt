@@ -1,4 +1,4 @@
-use Rattle.std.proofs.Common.{get_or, refl, arith, nat_eq, nat_le}
+use Rattle.std.proofs.Common.{get_or, refl, arith, nat_le}
 use Rattle.lp_verilog.specs.declared.bytes.TheConstants.{LETTERS}
 use Rattle.lp_verilog.specs.Lexical.{is_inner}
 use Rattle.lp_verilog.proofs.Tables.{same_below_at}

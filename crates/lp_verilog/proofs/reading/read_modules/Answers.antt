@@ -1,4 +1,4 @@
-use Rattle.std.proofs.Common.{◌≡◌, ℕ, List, ◌+◌, false, length, drop, sym, ap, ◌∙◌, arith}
+use Rattle.std.proofs.Common.{ℕ, List, ◌+◌, false, length, drop, sym, ◌∙◌, arith}
 use Rattle.lp_verilog.specs.declared.reader.Reader.{Reader}
 use Rattle.lp_verilog.specs.Reading.{read_rest}
 use Rattle.lp_verilog.specs.View.{piece_view}

@@ -1,4 +1,4 @@
-use Rattle.std.proofs.Common.{◌≡◌, ◌<◌, get_or, sym, ap, ◌∙◌, arith}
+use Rattle.std.proofs.Common.{◌<◌, get_or, sym, ap, ◌∙◌, arith}
 use Rattle.lp_text.specs.Texts.{has_text}
 use Rattle.lp_verilog.proofs.Words.{reserved_from, reserved_empty, among}
 use Rattle.lp_verilog.proofs.reserved.is_reserved.Goals as goal

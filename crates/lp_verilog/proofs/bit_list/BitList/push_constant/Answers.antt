@@ -1,4 +1,4 @@
-use Rattle.std.proofs.Common.{◌≡◌, ◌-◌, ◌++◌, [], ◌∷◌, false, refl, ap, ◌∙◌, arith}
+use Rattle.std.proofs.Common.{◌-◌, ◌++◌, [], ◌∷◌, false, refl, ap, ◌∙◌, arith}
 use Rattle.lp_model.specs.declared.bits.Bit.TheVariants as bits
 use Rattle.lp_verilog.specs.Values.{digit}
 use Rattle.lp_verilog.proofs.Steps.{bits_kept}

@@ -1,4 +1,4 @@
-use Rattle.std.proofs.Common.{◌≡◌, arith}
+use Rattle.std.proofs.Common.{arith}
 use Rattle.lp_model.specs.declared.bits.Bit.TheVariants as bits
 use Rattle.lp_verilog.proofs.Steps.{bits_kept}
 use Rattle.lp_verilog.proofs.bit_list.BitList.push_indices.Goals as goal

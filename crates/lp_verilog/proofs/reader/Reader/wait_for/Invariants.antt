@@ -1,4 +1,4 @@
-use Rattle.std.proofs.Common.{◌≡◌, ◌++◌, ◌-◌, drop, length}
+use Rattle.std.proofs.Common.{◌≡◌, ◌-◌, drop, length}
 use Rattle.lp_verilog.specs.Machine.{awaiting}
 use Rattle.lp_verilog.proofs.reader.Reader.wait_for.Given as goal
 

@@ -1,4 +1,4 @@
-use Rattle.std.proofs.Common.{◌≡◌, arith}
+use Rattle.std.proofs.Common.{arith}
 use Rattle.std.proofs.lemmas.Grind.{common_steps}
 use Rattle.lp_verilog.proofs.Steps.{lacking_step}
 use Rattle.lp_verilog.proofs.scope.Scope.lacking.Goals as goal

@@ -1,4 +1,3 @@
-use Rattle.std.proofs.Common.{◌≡◌}
 use Rattle.lp_verilog.proofs.Steps.{nets_kept}
 use Rattle.lp_verilog.proofs.scope.Scope.nets.Goals as goal
 
