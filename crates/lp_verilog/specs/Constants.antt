@@ -72,4 +72,4 @@ constant_with (b ∷ size) base digits = if not (b == 48) && is_size (number_of 
 -- the constant with this size, and with a base and digits behind its quote
 abbrev pub constant_of : List ℕ → List ℕ → Token
 constant_of size [] = tokens.Broken
-constant_of size (b ∷ digits) = if are_digits (base_of b) digits then constant_with size (base_of b) digits else tokens.Broken
+constant_of size (b ∷ digits) = if nat_lt 0 (base_of b) && are_digits (base_of b) digits then constant_with size (base_of b) digits else tokens.Broken

@@ -174,7 +174,7 @@ pub(crate) fn constant_of(size: &[u8], body: &[u8]) -> Token
         [] => Token::Broken,
         [letter, digits @ ..] => {
             let base = base_of(*letter);
-            if are_digits(base, digits) {
+            if 0 < base && are_digits(base, digits) {
                 constant_with(size, base, digits)
             } else {
                 Token::Broken

@@ -84,6 +84,12 @@ fn texts_are_refused_at_their_first_fault(rt: HostRuntime) -> Result<(), Fail> {
     check_line(
         &rt,
         alloc,
+        b"module t; B b (.A(4'sx)); endmodule",
+        b"lpinsert: F10 Syntax 1:19",
+    )?;
+    check_line(
+        &rt,
+        alloc,
         b"module t; /* wire",
         b"lpinsert: F10 Syntax 1:18",
     )?;
