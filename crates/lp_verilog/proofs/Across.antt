@@ -42,7 +42,7 @@ renumber from to i = by_text to i (slice_get from i)
 abbrev pub Covers : List (List ℕ) → List (List ℕ) → Type 0
 Covers from to = (t : List ℕ) → has_text t from ≡ true → has_text t to ≡ true
 
-has_place : (t : List ℕ) (names : List (List ℕ)) → has_text t names ≡ true → (k : ℕ) × (place_of t names ≡ Some k)
+pub has_place : (t : List ℕ) (names : List (List ℕ)) → has_text t names ≡ true → (k : ℕ) × (place_of t names ≡ Some k)
 has_place t names h = by (place_of t names) refl
   where
     by : (o : Option ℕ) → place_of t names ≡ o → (k : ℕ) × (place_of t names ≡ Some k)

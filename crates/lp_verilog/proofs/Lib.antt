@@ -9,3 +9,4 @@ pub mod Renaming
 pub mod Renamed
 pub mod Across
 pub mod Unique
+pub mod Growing

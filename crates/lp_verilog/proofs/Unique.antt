@@ -27,7 +27,7 @@ or_right : (a b : Bool) → b ≡ true → (a || b) ≡ true
 or_right true b e = refl
 or_right false b e = e
 
-covers_left : (a b : List (List ℕ)) → Covers a (a ++ b)
+pub covers_left : (a b : List (List ℕ)) → Covers a (a ++ b)
 covers_left a b t h = has_text-append t a b ∙ or_left (has_text t a) (has_text t b) h
 
 covers_right : (a b : List (List ℕ)) → Covers b (a ++ b)

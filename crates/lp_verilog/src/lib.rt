@@ -24,7 +24,7 @@ mod symbol;
 mod token;
 mod value;
 
-pub use laws::{one_netlist, one_outcome};
+pub use laws::{grown_names_keep_readings, one_netlist, one_outcome};
 pub use netlist::read_netlist;
 
 #[cfg(test)]
