@@ -17,7 +17,7 @@ use lp_paths::{has_loop, ordered_has_no_loop};
 use lp_small::{Cell, Instance, Intent, Module};
 use lp_text::{Bytes, NoMemory};
 use lp_upf::read_intent;
-use lp_verilog::read_netlist;
+use lp_small_verilog::read_netlist;
 use sqlite_items::Items;
 use std::alloc::Global;
 

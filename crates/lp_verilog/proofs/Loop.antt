@@ -1,52 +1,34 @@
--- Reading one item after another, as a loop does.
-use Rattle.std.proofs.Common.{◌≡◌, ℕ, suc, ◌-◌, ◌+◌, ◌≤◌, ◌<◌, List, ◌∷◌, Option, Some, None, refl, sym, ◌∙◌, arith}
-use Rattle.lp_token.specs.Reading.{◌>>=◌}
-use Rattle.lp_verilog.specs.declared.fault.ReadError.{ReadError}
-use Rattle.lp_verilog.specs.declared.fault.ReadError.TheVariants as errors
-use Rattle.lp_verilog.specs.Gives.{Fails}
-use Rattle.lp_verilog.specs.Reading.{many, gathered}
+-- One step of the loop that reads a text.
+use Rattle.std.proofs.Common.{◌≡◌, ℕ, suc, ◌+◌, ◌<◌, Bool, false, List, [], ◌∷◌, length, drop, get_or, Some, None, Result, Ok, Err, refl, sym, ap, ◌∙◌, subst, arith}
+use Rattle.std.proofs.Math.Seq.{drop-cons}
+use Rattle.lp_model.specs.declared.netlist.Module.{Module}
+use Rattle.lp_verilog.specs.declared.reader.Reader.{Reader}
+use Rattle.lp_verilog.specs.declared.reading.Halt.{Halt}
+use Rattle.lp_verilog.specs.declared.reading.Halt.TheVariants as halts
+use Rattle.lp_verilog.specs.Cutting.{Piece, piece_of}
+use Rattle.lp_verilog.specs.Reading.{Reading, ending, ended, turned, read_rest}
+use Rattle.lp_verilog.specs.Answers.{Halts, Finishes, IsReading}
 
-regroup : {A B : Type 0} (take_up : B → A → B) (state : B) (item : A) (read : Option (List A × List ℕ)) → gathered take_up state (read >>= λ others. Some (item ∷ others.0, others.1)) ≡ gathered take_up (take_up state item) read
-regroup take_up state item None = refl
-regroup take_up state item (Some x) = refl
+at_end : (fuel : List ℕ) (size : ℕ) (fresh : Bool) (rest : List ℕ) (names : List (List ℕ)) (m : Reader) → piece_of fresh rest ≡ None → read_rest fuel size fresh rest names m ≡ ended size names m
+at_end [] size fresh rest names m e = refl
+at_end (b ∷ fuel) size fresh rest names m e = ap (turned (λ r ns n. read_rest fuel size false r ns n) size rest names m) e
 
--- one item more
-pub goes_on : {A B : Type 0} (next : List ℕ → Option (Option (A × List ℕ))) (take_up : B → A → B) (state : B) (item : A) (text rest : List ℕ) (count i : ℕ) (total : Option (B × List ℕ))
-    → i < count → next text ≡ Some (Some (item, rest)) → gathered take_up state (many next (count - i) text) ≡ total → gathered take_up (take_up state item) (many next (count - (i + 1)) rest) ≡ total
-unfolding many
-goes_on next take_up state item text rest count i total lt h so_far =
-    let k : count - i ≡ suc (count - (i + 1)) = omega arith in
-    let one : gathered take_up state (many next (count - i) text) ≡ gathered take_up (take_up state item) (many next (count - (i + 1)) rest) = rw (k, h) (regroup take_up state item (many next (count - (i + 1)) rest)) in
-    sym one ∙ so_far
+is_finished : (r : Result (List Module) Halt) (size : ℕ) (names : List (List ℕ)) (m : Reader) → Finishes r (ending size m) → IsReading r names (ended size names m)
+is_finished (Ok modules) size names m h = ap (λ o. record { outcome = o; names = names }) h
+is_finished (Err (halts.Left off place word)) size names m h = ap (λ o. record { outcome = o; names = names }) h
+is_finished (Err halts.NoMemory) size names m h = tt
 
--- no item follows
-pub stops : {A B : Type 0} (next : List ℕ → Option (Option (A × List ℕ))) (take_up : B → A → B) (state : B) (text : List ℕ) (count i : ℕ) (total : Option (B × List ℕ))
-    → i < count → next text ≡ Some None → gathered take_up state (many next (count - i) text) ≡ total → total ≡ Some (state, text)
-unfolding many
-stops next take_up state text count i total lt h so_far =
-    let k : count - i ≡ suc (count - (i + 1)) = omega arith in
-    let one : gathered take_up state (many next (count - i) text) ≡ Some (state, text) = rw (k, h) refl in
-    sym so_far ∙ one
+-- where no token is left
+pub finished : (r : Result (List Module) Halt) (fuel : List ℕ) (size : ℕ) (fresh : Bool) (rest : List ℕ) (names : List (List ℕ)) (m : Reader) (all : Reading) → piece_of fresh rest ≡ None → Finishes r (ending size m) → read_rest fuel size fresh rest names m ≡ all → IsReading r names all
+finished r fuel size fresh rest names m all e h kept = subst (IsReading r names) (sym (at_end fuel size fresh rest names m e) ∙ kept) (is_finished r size names m h)
 
--- no item is read
-pub breaks : {A B : Type 0} (next : List ℕ → Option (Option (A × List ℕ))) (take_up : B → A → B) (state : B) (text : List ℕ) (count i : ℕ) (total : Option (B × List ℕ)) (e : ReadError)
-    → i < count → Fails e (next text) → gathered take_up state (many next (count - i) text) ≡ total → Fails e total
-unfolding many
-breaks next take_up state text count i total errors.Memory lt h so_far = tt
-breaks next take_up state text count i total errors.Off lt h so_far =
-    let k : count - i ≡ suc (count - (i + 1)) = omega arith in
-    let one : gathered take_up state (many next (count - i) text) ≡ None = rw (k, h) refl in
-    sym so_far ∙ one
+-- where one is left
+pub turn_at : (bytes : List ℕ) (i size : ℕ) (fresh : Bool) (rest : List ℕ) (names : List (List ℕ)) (m : Reader) (p : Piece) (all : Reading) → i < length bytes → piece_of fresh rest ≡ Some p → read_rest (drop i bytes) size fresh rest names m ≡ all → turned (λ r ns n. read_rest (drop (i + 1) bytes) size false r ns n) size rest names m (Some p) ≡ all
+turn_at bytes i size fresh rest names m p all l e kept =
+    let next : i + 1 ≡ suc i = omega arith in
+    let front : drop i bytes ≡ get_or bytes i 0 ∷ drop (i + 1) bytes = rw next (drop-cons bytes i 0 l) in
+    sym (ap (turned (λ r ns n. read_rest (drop (i + 1) bytes) size false r ns n) size rest names m) e) ∙ sym (ap (λ fuel. read_rest fuel size fresh rest names m) front) ∙ kept
 
--- there are no more steps
-pub runs_out : {A B : Type 0} (next : List ℕ → Option (Option (A × List ℕ))) (take_up : B → A → B) (state : B) (text : List ℕ) (count i : ℕ) (total : Option (B × List ℕ))
-    → count ≤ i → gathered take_up state (many next (count - i) text) ≡ total → total ≡ None
-unfolding many
-runs_out next take_up state text count i total le so_far =
-    let k : count - i ≡ 0 = omega arith in
-    let one : gathered take_up state (many next (count - i) text) ≡ None = rw k refl in
-    sym so_far ∙ one
-
--- the steps before the first one
-pub all_steps : (n : ℕ) → n + 1 - 0 ≡ suc n
-all_steps n = omega arith
+-- where it cannot stand
+pub halted : (e : Halt) (names : List (List ℕ)) (reading all : Reading) → Halts e names reading → reading ≡ all → Halts e names all
+halted e names reading all h kept = subst (Halts e names) kept h

@@ -1,19 +1,30 @@
-//! Reads a structural Verilog netlist of one module, in the subset that the grammar of `lp_small` has.
+//! Structural Verilog netlists (IEEE 1364-2005, the subset that is read).
 #![tactic(auto)]
 
-mod checks;
-mod declarations;
-mod fault;
-mod free;
-mod header;
-mod instances;
+mod ascii;
+mod bit_list;
+mod bytes;
+mod constant;
+mod declaring;
+mod draft;
+mod front;
+mod gap;
+mod grammar;
 mod laws;
-mod names;
+mod name_set;
+mod naming;
 mod netlist;
+mod reader;
+mod reading;
 mod reserved;
-mod tree;
+mod scope;
+mod stepping;
+mod stop;
+mod symbol;
+mod token;
+mod value;
 
-pub use laws::one_netlist;
+pub use laws::{grown_names_keep_readings, one_netlist, one_outcome};
 pub use netlist::read_netlist;
 
 #[cfg(test)]

@@ -1,47 +1,88 @@
-ghost use Rattle.std.specs.Prelude.{◌≡◌, Some, IfOk, IfSome};
-ghost use Rattle.lp_small.specs.declared.netlist.Module as model;
-ghost use Rattle.lp_small.specs.Verilog.{IsSource};
-ghost use Rattle.lp_verilog.specs.Gives.{Gives};
-ghost use Rattle.lp_verilog.specs.Checks.{source_at};
+ghost use Rattle.std.specs.Prelude.{◌≡◌, ◌+◌, ◌<◌, ◌≤◌, length, IfOk, IfErr, OnOk};
+ghost use Rattle.lp_text.specs.Texts.{Grown};
+ghost use Rattle.lp_text.specs.Places.{place_in};
+ghost use Rattle.lp_model.specs.NetlistView.{netlist_view};
+ghost use Rattle.lp_verilog.specs.Denotes.{Denotes};
+ghost use Rattle.lp_verilog.specs.Reads.{Reads};
+ghost use Rattle.lp_verilog.specs.Refusing.{IsFault, Refuses, HasNone, fault_of};
 
-use crate::checks::netlist_of;
-use crate::fault::ReadError;
-use crate::free::is_free_module;
-use crate::header::read_tree;
-use lp_small::Module;
-use lp_text::{LIMIT, NoMemory};
+use crate::naming::intern;
+use crate::reading::{Halt, read_modules};
+use crate::stop::Off;
+use lp_model::{Netlist, NetlistFault, NetlistLimit, Refusal};
+use lp_text::{LIMIT, Names, Place};
 use std::alloc::Global;
 
-#[tactic(auto, unfolding(crate::specs::Checks::source_at))]
-fn source(alloc: Global, bytes: &[u8]) -> Result<Module, ReadError>
-    ensures { Gives (λ m. m) result (source_at bytes.now) }
+/// The place of a byte, or of the end.
+fn place(text: &[u8], at: usize) -> Place
+    requires { length text.now ≤ 67108864 }
+    ensures { result ≡ place_in text.now at }
 {
-    let tree = read_tree(alloc, bytes)?;
-    let module = netlist_of(alloc, tree)?;
-    if !is_free_module(&module) {
-        return Err(ReadError::Off);
-    }
-    Ok(module)
+    Place::of(text, at.min(text.len()))
 }
 
-/// The netlist that a text of at most [`LIMIT`] bytes denotes, or `None` where it denotes no source
-/// netlist.
+/// The refusal for a token that cannot stand where it does.
+fn refusal(names: &mut Names, text: &[u8], off: Off, at: usize, word: &str) -> Refusal
+    requires short { length text.now ≤ 67108864 }
+    requires room { length names.old < 4294967295 }
+    ensures fault { IsFault result (fault_of names.new text.now at word.now off) }
+    ensures grown { Grown names.old names.new }
+    ensures few { length names.new ≤ length names.old + 1 }
+{
+    match off {
+        Off::Syntax => Refusal::from(NetlistFault::Syntax {
+            place: place(text, at),
+        }),
+        Off::Unsupported => match intern(names, word) {
+            Ok(word) => Refusal::from(NetlistFault::Unsupported {
+                place: place(text, at),
+                word,
+            }),
+            Err(error) => Refusal::from(error),
+        },
+        Off::Duplicate(name) => Refusal::from(NetlistFault::DuplicateName {
+            place: place(text, at),
+            name,
+        }),
+        Off::Lacking(port) => Refusal::from(NetlistFault::Syntax {
+            place: place(text, port),
+        }),
+    }
+}
+
+/// The netlist of a text (IEEE 1364-2005, the subset that is read), over names of the table.
+///
+/// New names come at the table's end, which has at most 3,000,000,000 names.
 ///
 /// # Errors
 ///
-/// Only where memory is refused.
-pub fn read_netlist(alloc: Global, bytes: &[u8]) -> Result<Option<Module>, NoMemory>
-    // What is read is what the text denotes.
-    ensures found { IfOk result (λ o. IfSome o (λ m. IsSource bytes.now m)) }
-    // A text that denotes a source netlist is read, unless memory runs out.
-    ensures only { IfOk result (λ o. (m : model.Module) → IsSource bytes.now m → o ≡ Some m) }
+/// F22 above 67,108,864 bytes; F10, F11 or F12 at the first token that cannot stand where it does; and where memory is
+/// refused. The table may then have grown.
+pub fn read_netlist(alloc: Global, names: &mut Names, bytes: &[u8]) -> Result<Netlist, Refusal>
+    requires { length names.old ≤ 3000000000 }
+    ensures reads { IfOk result (λ n. Reads bytes.now (netlist_view names.new n)) }
+    ensures numbers { IfOk result (λ n. Denotes names.new bytes.now n.modules) }
+    ensures short { OnOk result (length bytes.now ≤ 67108864) }
+    ensures err { IfErr result (Refuses names.new bytes.now) }
+    ensures none { IfErr result (HasNone bytes.now) }
+    ensures grown { Grown names.old names.new }
+    ensures few { length names.new ≤ length names.old + length bytes.now + 1 }
 {
     if bytes.len() > LIMIT {
-        return Ok(None);
+        return Err(Refusal::from(NetlistFault::Limit {
+            limit: NetlistLimit::Bytes,
+        }));
     }
-    match source(alloc, bytes) {
-        Ok(module) => Ok(Some(module)),
-        Err(ReadError::Off) => Ok(None),
-        Err(ReadError::Memory) => Err(NoMemory),
+    // A table says that its texts are distinct where it is counted.
+    match read_modules(alloc, names, bytes) {
+        Ok(modules) => {
+            let _ = names.count();
+            Ok(Netlist { modules })
+        }
+        Err(Halt::NoMemory) => Err(Refusal::NoMemory),
+        Err(Halt::Left(off, at, word)) => {
+            let _ = names.count();
+            Err(refusal(names, bytes, off, at, word))
+        }
     }
 }

@@ -1,31 +1,19 @@
-ghost use Rattle.std.specs.Prelude.{◌≡◌, bytes_eq};
-ghost use Rattle.std.specs.List.{list_all, list_any};
-ghost use Rattle.lp_token.specs.Tokens.{is_letter, is_name_byte};
-ghost use Rattle.lp_small.specs.Names.{has_name, begins_with_letter};
-ghost use Rattle.lp_small.specs.Verilog.{reserved_words, is_identifier};
-ghost use Rattle.lp_verilog.specs.Reserved.{is_lower, begins_lower};
+ghost use Rattle.std.specs.Prelude.{◌≡◌, ◌∷◌, map, bytes_eq};
+ghost use Rattle.std.specs.List.{list_any};
+ghost use Rattle.lp_text.specs.Texts.{has_text};
+ghost use Rattle.lp_verilog.specs.Reserved.{reserved_words, reserved_token, words_from};
 
-// The reserved words of IEEE 1364-2005, annex B.
-static RESERVED: [&[u8]; 124] = [
-    b"always",
-    b"and",
-    b"assign",
-    b"automatic",
-    b"begin",
-    b"buf",
-    b"bufif0",
-    b"bufif1",
-    b"case",
-    b"casex",
-    b"casez",
-    b"cell",
-    b"cmos",
-    b"config",
-    b"deassign",
-    b"default",
-    b"defparam",
-    b"design",
-    b"disable",
+use crate::token::{Keyword, Token};
+
+static A_WORDS: [&[u8]; 4] = [b"always", b"and", b"assign", b"automatic"];
+
+static B_WORDS: [&[u8]; 4] = [b"begin", b"buf", b"bufif0", b"bufif1"];
+
+static C_WORDS: [&[u8]; 6] = [b"case", b"casex", b"casez", b"cell", b"cmos", b"config"];
+
+static D_WORDS: [&[u8]; 5] = [b"deassign", b"default", b"defparam", b"design", b"disable"];
+
+static E_WORDS: [&[u8]; 13] = [
     b"edge",
     b"else",
     b"end",
@@ -39,15 +27,15 @@ static RESERVED: [&[u8]; 124] = [
     b"endtable",
     b"endtask",
     b"event",
-    b"for",
-    b"force",
-    b"forever",
-    b"fork",
-    b"function",
-    b"generate",
-    b"genvar",
-    b"highz0",
-    b"highz1",
+];
+
+static F_WORDS: [&[u8]; 5] = [b"for", b"force", b"forever", b"fork", b"function"];
+
+static G_WORDS: [&[u8]; 2] = [b"generate", b"genvar"];
+
+static H_WORDS: [&[u8]; 2] = [b"highz0", b"highz1"];
+
+static I_WORDS: [&[u8]; 9] = [
     b"if",
     b"ifnone",
     b"incdir",
@@ -57,14 +45,15 @@ static RESERVED: [&[u8]; 124] = [
     b"input",
     b"instance",
     b"integer",
-    b"join",
-    b"large",
-    b"liblist",
-    b"library",
-    b"localparam",
-    b"macromodule",
-    b"medium",
-    b"module",
+];
+
+static J_WORDS: [&[u8]; 1] = [b"join"];
+
+static L_WORDS: [&[u8]; 4] = [b"large", b"liblist", b"library", b"localparam"];
+
+static M_WORDS: [&[u8]; 3] = [b"macromodule", b"medium", b"module"];
+
+static N_WORDS: [&[u8]; 8] = [
     b"nand",
     b"negedge",
     b"nmos",
@@ -73,8 +62,11 @@ static RESERVED: [&[u8]; 124] = [
     b"not",
     b"notif0",
     b"notif1",
-    b"or",
-    b"output",
+];
+
+static O_WORDS: [&[u8]; 2] = [b"or", b"output"];
+
+static P_WORDS: [&[u8]; 10] = [
     b"parameter",
     b"pmos",
     b"posedge",
@@ -85,6 +77,9 @@ static RESERVED: [&[u8]; 124] = [
     b"pullup",
     b"pulsestyle_ondetect",
     b"pulsestyle_onevent",
+];
+
+static R_WORDS: [&[u8]; 11] = [
     b"rcmos",
     b"real",
     b"realtime",
@@ -96,6 +91,9 @@ static RESERVED: [&[u8]; 124] = [
     b"rtran",
     b"rtranif0",
     b"rtranif1",
+];
+
+static S_WORDS: [&[u8]; 10] = [
     b"scalared",
     b"showcancelled",
     b"signed",
@@ -106,46 +104,51 @@ static RESERVED: [&[u8]; 124] = [
     b"strong1",
     b"supply0",
     b"supply1",
-    b"table",
-    b"task",
-    b"time",
-    b"tran",
-    b"tranif0",
-    b"tranif1",
-    b"tri",
-    b"tri0",
-    b"tri1",
-    b"triand",
-    b"trior",
-    b"trireg",
-    b"unsigned",
-    b"use",
-    b"uwire",
-    b"vectored",
-    b"wait",
-    b"wand",
-    b"weak0",
-    b"weak1",
-    b"while",
-    b"wire",
-    b"wor",
-    b"xnor",
-    b"xor",
 ];
 
-fn is_lower(b: u8) -> bool
-    ensures { result ≡ is_lower b }
-{
-    b >= b'a' && b <= b'z'
-}
+static T_WORDS: [&[u8]; 12] = [
+    b"table", b"task", b"time", b"tran", b"tranif0", b"tranif1", b"tri", b"tri0", b"tri1",
+    b"triand", b"trior", b"trireg",
+];
 
-// Each reserved word begins with two small letters, which few names of nets do.
-fn begins_lower(word: &[u8]) -> bool
-    ensures { result ≡ begins_lower word.now }
+static U_WORDS: [&[u8]; 3] = [b"unsigned", b"use", b"uwire"];
+
+static V_WORDS: [&[u8]; 1] = [b"vectored"];
+
+static W_WORDS: [&[u8]; 7] = [
+    b"wait", b"wand", b"weak0", b"weak1", b"while", b"wire", b"wor",
+];
+
+static X_WORDS: [&[u8]; 2] = [b"xnor", b"xor"];
+
+/// The reserved words that begin with a byte.
+fn words_from(first: u8) -> &'static [&'static [u8]]
+    ensures { map (λ w. w.now) result.now ≡ words_from first }
 {
-    match word {
-        [first, second, ..] => is_lower(*first) && is_lower(*second),
-        _ => false,
+    match first {
+        b'a' => &A_WORDS,
+        b'b' => &B_WORDS,
+        b'c' => &C_WORDS,
+        b'd' => &D_WORDS,
+        b'e' => &E_WORDS,
+        b'f' => &F_WORDS,
+        b'g' => &G_WORDS,
+        b'h' => &H_WORDS,
+        b'i' => &I_WORDS,
+        b'j' => &J_WORDS,
+        b'l' => &L_WORDS,
+        b'm' => &M_WORDS,
+        b'n' => &N_WORDS,
+        b'o' => &O_WORDS,
+        b'p' => &P_WORDS,
+        b'r' => &R_WORDS,
+        b's' => &S_WORDS,
+        b't' => &T_WORDS,
+        b'u' => &U_WORDS,
+        b'v' => &V_WORDS,
+        b'w' => &W_WORDS,
+        b'x' => &X_WORDS,
+        _ => &[],
     }
 }
 
@@ -155,45 +158,33 @@ fn is_among(word: &[u8], words: &[&[u8]]) -> bool
     words.iter().any(|w| *w == word)
 }
 
-fn is_reserved_word(word: &[u8]) -> bool
-    ensures { result ≡ has_name word.now reserved_words }
-{
-    if !begins_lower(word) {
-        return false;
-    }
-    is_among(word, &RESERVED)
-}
-
-fn is_letter(b: u8) -> bool
-    ensures { result ≡ is_letter b }
-{
-    (b >= b'a' && b <= b'z') || (b >= b'A' && b <= b'Z')
-}
-
-fn is_name_byte(b: u8) -> bool
-    ensures { result ≡ is_name_byte b }
-{
-    is_letter(b) || (b >= b'0' && b <= b'9') || b == b'_'
-}
-
-fn begins_with_letter(word: &[u8]) -> bool
-    ensures { result ≡ begins_with_letter word.now }
+/// Whether a word is reserved in Verilog (IEEE 1364-2005, annex B).
+pub(crate) fn is_reserved(word: &[u8]) -> bool
+    ensures { result ≡ has_text word.now reserved_words }
 {
     match word {
         [] => false,
-        [first, ..] => is_letter(*first),
+        [first, ..] => is_among(word, words_from(*first)),
     }
 }
 
-fn has_name_bytes(word: &[u8]) -> bool
-    ensures { result ≡ list_all is_name_byte word.now }
+/// What a reserved word is.
+pub(crate) fn reserved_token(word: &[u8]) -> Token
+    ensures { result ≡ reserved_token word.now }
 {
-    word.iter().all(|b| is_name_byte(*b))
-}
-
-/// Whether a word is a name: a simple identifier that is no reserved word.
-pub fn is_identifier(word: &[u8]) -> bool
-    ensures { result ≡ is_identifier word.now }
-{
-    begins_with_letter(word) && has_name_bytes(word) && !is_reserved_word(word)
+    if word == b"module".as_slice() {
+        Token::Keyword(Keyword::Module)
+    } else if word == b"endmodule".as_slice() {
+        Token::Keyword(Keyword::EndModule)
+    } else if word == b"input".as_slice() {
+        Token::Keyword(Keyword::Input)
+    } else if word == b"output".as_slice() {
+        Token::Keyword(Keyword::Output)
+    } else if word == b"wire".as_slice() {
+        Token::Keyword(Keyword::Wire)
+    } else if word == b"assign".as_slice() {
+        Token::Keyword(Keyword::Assign)
+    } else {
+        Token::Foreign
+    }
 }

@@ -1,80 +1,170 @@
 use crate::read_netlist;
-use lp_small::Direction;
+use lp_model::{Bit, Connections, Module, Refusal, write_line};
+use lp_text::{Bytes, Names};
 use std::alloc::Global;
+use std::process::Abort;
 use std::test::Fail;
 
-const SMALL: &[u8] =
-    b"module t (a, b, y);\n  input a, b;\n  output y;\n  AND2 g (.A(a), .B(b), .Y(y));\nendmodule\n";
-
-fn is_read(alloc: Global, text: &[u8]) -> Result<bool, Fail> {
-    Ok(read_netlist(alloc, text)?.is_some())
+/// The line of the fault of a text; it is empty where the text is read.
+fn line_of(alloc: Global, text: &[u8]) -> Result<Bytes, Fail> {
+    let mut names = Names::new(alloc)?;
+    match read_netlist(alloc, &mut names, text) {
+        Ok(_) => Ok(Bytes::copy(alloc, b"")?),
+        Err(Refusal::NoMemory) => Ok(Bytes::copy(alloc, b"no memory")?),
+        Err(Refusal::Fault(fault)) => Ok(write_line(alloc, &names, &fault)?),
+    }
 }
 
-#[test]
-fn reads_ports_and_instances(rt: HostRuntime) -> Result<(), Fail> {
-    let module = read_netlist(rt.alloc(), SMALL)?.ok_or("not read")?;
-    assert_eq!(rt; module.name.all(), b"t".as_slice());
-    assert_eq!(rt; module.ports.len(), 3);
-    assert_eq!(rt; module.wires.len(), 0);
-    let first = module.ports.get(0).ok_or("no port")?;
-    assert_eq!(rt; first.name.all(), b"a".as_slice());
-    assert_eq!(rt; first.direction, Direction::Input);
-    let last = module.ports.get(2).ok_or("no port")?;
-    assert_eq!(rt; last.name.all(), b"y".as_slice());
-    assert_eq!(rt; last.direction, Direction::Output);
+fn check_line(rt: &impl Abort, alloc: Global, text: &[u8], line: &[u8]) -> Result<(), Fail> {
+    let found = line_of(alloc, text)?;
+    assert_eq!(rt; found.all(), line);
     Ok(())
 }
 
 #[test]
-fn reads_connections(rt: HostRuntime) -> Result<(), Fail> {
-    let module = read_netlist(rt.alloc(), SMALL)?.ok_or("not read")?;
-    let gate = module.instances.get(0).ok_or("no instance")?;
-    assert_eq!(rt; gate.name.all(), b"g".as_slice());
-    assert_eq!(rt; gate.target.all(), b"AND2".as_slice());
-    assert_eq!(rt; gate.connections.len(), 3);
-    let second = gate.connections.get(1).ok_or("no connection")?;
-    assert_eq!(rt; second.pin.all(), b"B".as_slice());
-    assert_eq!(rt; second.net.all(), b"b".as_slice());
-    Ok(())
-}
-
-#[test]
-fn reads_blanks_of_any_kind(rt: HostRuntime) -> Result<(), Fail> {
-    let text = b"\tmodule t(y) ;output\r\ny;wire n;BUF g(.A(n),.Y(y));endmodule";
-    assert!(rt; is_read(rt.alloc(), text)?);
-    Ok(())
-}
-
-#[test]
-fn reads_nothing_off_the_form(rt: HostRuntime) -> Result<(), Fail> {
+fn constants_and_names_are_refused_at_their_places(rt: HostRuntime) -> Result<(), Fail> {
     let alloc = rt.alloc();
-    // No endmodule, and something behind it.
-    assert!(rt; !is_read(alloc, b"module t (a); input a;")?);
-    assert!(rt; !is_read(alloc, b"module t (a); input a; endmodule x")?);
-    // A comment, and an empty list.
-    assert!(rt; !is_read(alloc, b"module t (a); // a\n input a; endmodule")?);
-    assert!(rt; !is_read(alloc, b"module t (); endmodule")?);
-    assert!(rt; !is_read(alloc, b"module t (a); input a; BUF g (); endmodule")?);
-    // A reserved word as a name, and a name that begins with a digit.
-    assert!(rt; !is_read(alloc, b"module t (wire); input wire; endmodule")?);
-    assert!(rt; !is_read(alloc, b"module t (4a); input 4a; endmodule")?);
-    Ok(())
+    let unknown = b"module t (y); output [1:0] y; BUF b (.A(1'bx), .Y(y[0])); endmodule";
+    check_line(&rt, alloc, unknown, b"lpinsert: F11 Unsupported 1:41 1'bx")?;
+    let twice = b"module t (a); input a; wire a, a; endmodule";
+    check_line(&rt, alloc, twice, b"lpinsert: F12 DuplicateName 1:32 a")?;
+    let once = b"module t (a); input a; wire a; endmodule";
+    check_line(&rt, alloc, once, b"")?;
+    let escaped =
+        b"module t (y); output [3:0] y; wire \\y[3] ; BUF b (.A(y[3]), .Y(\\y[3] )); endmodule";
+    check_line(&rt, alloc, escaped, b"")
 }
 
 #[test]
-fn reads_nothing_with_names_amiss(rt: HostRuntime) -> Result<(), Fail> {
+fn texts_are_refused_at_their_first_fault(rt: HostRuntime) -> Result<(), Fail> {
     let alloc = rt.alloc();
-    // A port with no direction, one with two, and a direction of no port.
-    assert!(rt; !is_read(alloc, b"module t (a, y); input a; endmodule")?);
-    assert!(rt; !is_read(alloc, b"module t (a); input a; output a; endmodule")?);
-    assert!(rt; !is_read(alloc, b"module t (a); input a, b; endmodule")?);
-    // A name declared twice: among ports, wires and instances.
-    assert!(rt; !is_read(alloc, b"module t (a, a); input a; endmodule")?);
-    assert!(rt; !is_read(alloc, b"module t (a); input a; wire a; endmodule")?);
-    assert!(rt; !is_read(alloc, b"module t (a); input a; BUF a (.A(a)); endmodule")?);
-    // A net that is not declared.
-    assert!(rt; !is_read(alloc, b"module t (a); input a; BUF g (.A(n)); endmodule")?);
-    // A name of the tool's own.
-    assert!(rt; !is_read(alloc, b"module t (a); input a; wire lp_n; endmodule")?);
+    check_line(&rt, alloc, b"", b"")?;
+    check_line(
+        &rt,
+        alloc,
+        b"module t; wire a;",
+        b"lpinsert: F10 Syntax 1:18",
+    )?;
+    check_line(
+        &rt,
+        alloc,
+        b"module t (a); input [1:0] a; B b (a[2]); endmodule",
+        b"lpinsert: F10 Syntax 1:37",
+    )?;
+    check_line(
+        &rt,
+        alloc,
+        b"module t (a,\n b); input a; endmodule",
+        b"lpinsert: F10 Syntax 2:2",
+    )?;
+    check_line(
+        &rt,
+        alloc,
+        b"module t; endmodule wire",
+        b"lpinsert: F10 Syntax 1:21",
+    )?;
+    check_line(
+        &rt,
+        alloc,
+        b"module t; always",
+        b"lpinsert: F11 Unsupported 1:11 always",
+    )?;
+    check_line(
+        &rt,
+        alloc,
+        b"module t; B b (.A(1'b2)); endmodule",
+        b"lpinsert: F10 Syntax 1:19",
+    )?;
+    check_line(
+        &rt,
+        alloc,
+        b"module t; B b (.A(1'd2)); endmodule",
+        b"lpinsert: F11 Unsupported 1:19 1'd2",
+    )?;
+    check_line(
+        &rt,
+        alloc,
+        b"module t; B b (.A(4'sx)); endmodule",
+        b"lpinsert: F10 Syntax 1:19",
+    )?;
+    check_line(
+        &rt,
+        alloc,
+        b"module t; /* wire",
+        b"lpinsert: F10 Syntax 1:18",
+    )?;
+    check_line(
+        &rt,
+        alloc,
+        b"module t; (* keep",
+        b"lpinsert: F10 Syntax 1:18",
+    )?;
+    check_line(
+        &rt,
+        alloc,
+        b"module t; wire \\a",
+        b"lpinsert: F10 Syntax 1:18",
+    )?;
+    check_line(
+        &rt,
+        alloc,
+        b" `timescale 1ns/1ps\nmodule t; `define",
+        b"lpinsert: F11 Unsupported 2:11 `define",
+    )?;
+    check_line(
+        &rt,
+        alloc,
+        b"module t; assign a = b; endmodule",
+        b"lpinsert: F10 Syntax 1:22",
+    )
+}
+
+fn check_bits(rt: &impl Abort, module: &Module) {
+    match module.instances.as_slice() {
+        [instance] => match &instance.connections {
+            Connections::Named(named) => match named.as_slice() {
+                [input, _] => {
+                    let bits = input.bits.as_slice();
+                    assert_eq!(rt; bits.len(), 6);
+                    assert!(rt;
+                        matches!(
+                            bits,
+                            [
+                                Bit::Select(_, 1),
+                                Bit::Select(_, 0),
+                                Bit::Select(_, 1),
+                                Bit::Select(_, 2),
+                                Bit::Const(true),
+                                Bit::Const(false)
+                            ]
+                        )
+                    );
+                }
+                _ => assert!(rt; false),
+            },
+            Connections::Ordered(_) => assert!(rt; false),
+        },
+        _ => assert!(rt; false),
+    }
+}
+
+#[test]
+fn values_are_their_bits(rt: HostRuntime) -> Result<(), Fail> {
+    let alloc = rt.alloc();
+    let mut names = Names::new(alloc)?;
+    let text =
+        b"module t (input [1:0] a, output wire y); wire [0:2] w; BUF b (.A({a, {w[1:2]}, 2'b10}), .Y()); assign w[0] = a[1]; endmodule";
+    match read_netlist(alloc, &mut names, text) {
+        Ok(netlist) => match netlist.modules.as_slice() {
+            [module] => {
+                assert_eq!(rt; module.ports.len(), 2);
+                assert_eq!(rt; module.nets.len(), 1);
+                assert_eq!(rt; module.assigns.len(), 1);
+                check_bits(&rt, module);
+            }
+            _ => assert!(rt; false),
+        },
+        Err(_) => assert!(rt; false),
+    }
     Ok(())
 }

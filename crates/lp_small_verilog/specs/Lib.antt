@@ -1,0 +1,4 @@
+pub mod Checks
+pub mod Gives
+pub mod Reading
+pub mod Reserved

@@ -1,0 +1,142 @@
+ghost use Rattle.std.specs.Prelude.{◌≡◌, ◌+◌, ◌<◌, ◌≤◌, ℕ, List, Some, true, length, take, drop, IfOk};
+ghost use Rattle.lp_text.specs.Texts.{Grown};
+ghost use Rattle.lp_verilog.specs.Reading.{Reading, read_rest, turned, ending};
+ghost use Rattle.lp_verilog.specs.Machine.{start, step};
+ghost use Rattle.lp_verilog.specs.Answers.{Takes, GoesOn, Finishes, IsReading};
+ghost use Rattle.lp_verilog.specs.View.{piece_view};
+ghost use Rattle.lp_verilog.specs.declared.reader.Reader.{Reader};
+
+use crate::ascii::shown;
+use crate::front::piece_of;
+use crate::naming::token_of;
+use crate::reader::Reader;
+use crate::stop::{Off, Stop};
+use crate::token::{Piece, Token};
+use lp_model::Module;
+use lp_text::{Names, NoMemory};
+use sqlite_items::Items;
+use std::alloc::Global;
+
+/// Why a text is not read.
+#[derive(Clone, Copy, Debug)]
+pub(crate) enum Halt<'a> {
+    /// A token cannot stand where it does: why, the number of its first byte, and its bytes.
+    Left(Off, usize, &'a str),
+    /// An allocation was refused.
+    NoMemory,
+}
+
+impl<'a> From<NoMemory> for Halt<'a> {
+    ghost use Rattle.std.specs.Prelude.{◌≡◌};
+    ghost use Rattle.lp_verilog.specs.declared.reading.Halt.TheVariants as halts;
+
+    ghost from_gives = { λ _ h. h ≡ halts.NoMemory };
+
+    fn from(_error: NoMemory) -> Halt<'a> {
+        Halt::NoMemory
+    }
+}
+
+/// What stands behind some bytes.
+fn skip(text: &[u8], size: usize) -> &[u8]
+    ensures { result.now ≡ drop size text.now }
+{
+    if size < text.len() {
+        &text[size..]
+    } else {
+        &[]
+    }
+}
+
+/// Some bytes at the front.
+fn front(text: &[u8], size: usize) -> &[u8]
+    ensures { result.now ≡ take size text.now }
+{
+    if size < text.len() {
+        &text[..size]
+    } else {
+        text
+    }
+}
+
+/// Takes a token, whose first byte has this number, and whose bytes are these.
+fn take<'a>(
+    alloc: Global,
+    reader: &mut Reader,
+    token: Token,
+    at: usize,
+    bytes: &'a [u8],
+) -> Result<(), Halt<'a>>
+    ensures { Takes result reader.new at bytes.now (step token at reader.old) }
+{
+    match reader.step(alloc, token, at) {
+        Ok(()) => Ok(()),
+        Err(Stop::Off(off)) => Err(Halt::Left(off, at, shown(bytes))),
+        Err(Stop::NoMemory) => Err(Halt::NoMemory),
+    }
+}
+
+/// Takes the first token of what is left of a text of some size, and gives what is left behind it.
+fn turn<'a>(
+    alloc: Global,
+    names: &mut Names,
+    reader: &mut Reader,
+    size: usize,
+    rest: &'a [u8],
+    piece: Piece<'a>,
+) -> Result<&'a [u8], Halt<'a>>
+    requires room { length names.old < 4294967295 }
+    requires within { length rest.now ≤ size }
+    requires gap { piece.gap ≤ length rest.now }
+    ensures reads { (more : List ℕ → List (List ℕ) → Reader → Reading) → GoesOn (λ r. r.now) more result names.new reader.new (turned more size rest.now names.old reader.old (Some (piece_view piece.entry))) }
+    ensures left { IfOk result (λ r. length r.now ≤ length rest.now) }
+    ensures grown { Grown names.old names.new }
+    ensures few { length names.new ≤ length names.old + 1 }
+{
+    let at = size - rest.len() + piece.gap;
+    let token = token_of(names, piece.lexeme)?;
+    let here = skip(rest, piece.gap);
+    take(alloc, reader, token, at, front(here, piece.size))?;
+    Ok(skip(here, piece.size.max(1)))
+}
+
+/// The modules, where the text may end.
+fn finish<'a>(reader: Reader, size: usize) -> Result<Items<Module>, Halt<'a>>
+    ensures { Finishes result (ending size reader) }
+{
+    if reader.accepts() {
+        Ok(reader.modules)
+    } else {
+        Err(Halt::Left(Off::Syntax, size, ""))
+    }
+}
+
+/// The modules of a text.
+pub(crate) fn read_modules<'a>(
+    alloc: Global,
+    names: &mut Names,
+    bytes: &'a [u8],
+) -> Result<Items<Module>, Halt<'a>>
+    requires short { length bytes.now ≤ 67108864 }
+    requires room { length names.old ≤ 3000000000 }
+    ensures reads { IsReading result names.new (read_rest bytes.now (length bytes.now) true bytes.now names.old start) }
+    ensures grown { Grown names.old names.new }
+    ensures few { length names.new ≤ length names.old + length bytes.now }
+{
+    let mut reader = Reader::new(alloc)?;
+    let mut rest = bytes;
+    let mut fresh = true;
+    for byte in bytes {
+        match piece_of(fresh, rest) {
+            None => return finish(reader, bytes.len()),
+            Some(piece) => match turn(alloc, names, &mut reader, bytes.len(), rest, piece) {
+                Ok(behind) => {
+                    rest = behind;
+                    fresh = false;
+                }
+                Err(halt) => return Err(halt),
+            },
+        }
+    }
+    finish(reader, bytes.len())
+}
