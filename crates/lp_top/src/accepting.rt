@@ -15,9 +15,9 @@ use lp_liberty::read_library;
 use lp_meaning::accepted_cells_differ;
 use lp_paths::{has_loop, ordered_has_no_loop};
 use lp_small::{Cell, Instance, Intent, Module};
+use lp_small_verilog::read_netlist;
 use lp_text::{Bytes, NoMemory};
 use lp_upf::read_intent;
-use lp_small_verilog::read_netlist;
 use sqlite_items::Items;
 use std::alloc::Global;
 

@@ -15,9 +15,9 @@ use lp_meaning::{
 };
 use lp_pg::connect_all;
 use lp_small::{Cell, Intent, Module};
+use lp_small_verilog::one_netlist;
 use lp_text::{Bytes, NoMemory};
 use lp_upf::one_intent;
-use lp_small_verilog::one_netlist;
 use lp_vwrite::{reads_back, write_netlist};
 use std::alloc::Global;
 use std::marker::Model;

@@ -8,9 +8,9 @@ use crate::inserting::attempt;
 use crate::outcome::{Outcome, UsageFault};
 use crate::parsing::{command, has_clash};
 use lp_liberty::one_library;
+use lp_small_verilog::one_netlist;
 use lp_text::{NoMemory, Shelf, ShelfFault, Word};
 use lp_upf::one_intent;
-use lp_small_verilog::one_netlist;
 use std::alloc::Global;
 
 /// The line of an outcome, with its line feed.
