@@ -1,7 +1,17 @@
-pub mod Checks
-pub mod Fields
-pub mod Items
-pub mod Libraries
-pub mod Loop
-pub mod Names
-pub mod Pins
+mod Always
+mod Answered
+mod Attrs
+mod Few
+mod Found
+mod Fronts
+mod Gaps
+mod Joined
+mod Leaving
+mod OneAnswer
+mod Reading
+mod Running
+mod Shown
+mod Simulation
+mod Standing
+mod Within
+mod Zipper

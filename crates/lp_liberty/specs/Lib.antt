@@ -1,3 +1,9 @@
-pub mod Productions
-pub mod Reading
-pub mod View
+pub mod Denotes
+pub mod Grammar
+pub mod Lexing
+pub mod Machine
+pub mod Meaning
+pub mod Outcome
+pub mod Spelling
+pub mod Stops
+pub mod Tokens

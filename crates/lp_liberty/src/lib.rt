@@ -1,14 +1,18 @@
-//! Reads libraries of cells: the small form of Liberty whose grammar `lp_small` states.
+//! Reads a Liberty text as its groups, or finds the place at which it is refused.
 #![tactic(auto)]
 
-mod cell;
-mod check;
-mod fault;
-mod library;
-mod name;
-mod production;
+mod decode;
+mod gap;
+mod laws;
+mod lexed;
+mod mark;
+mod read;
+mod reader;
+mod run;
+mod runs;
 
-pub use library::{one_library, read_library};
+pub use laws::{one_list_of_groups, one_list_of_tokens};
+pub use read::read_groups;
 
 #[cfg(test)]
 mod tests;

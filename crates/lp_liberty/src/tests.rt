@@ -1,135 +1,179 @@
-use super::*;
-use lp_small::Function;
-use std::test::*;
+use crate::read_groups;
+use lp_model::{Attr, DesignFault, Fault, Group, LibraryFault, Refusal};
+use lp_text::{NameId, Names};
+use std::alloc::{AllocError, Global};
+use std::fmt::Write;
+use std::test::Fail;
 
-const HEAD: &[u8] = b"library (l) {\n";
-
-const CELL: &[u8] = b"  cell (AND2) {
-    area : 2.5 ;
-    pg_pin (VDD) { voltage_name : VDD ; pg_type : primary_power ; }
-    pg_pin (VSS) { voltage_name : VSS ; pg_type : primary_ground ; }
-    pin (A) { direction : input ; }
-    pin (B) { direction : input ; }
-    pin (Y) { direction : output ; function : \"A * B\" ; power_down_function : \"!VDD + VSS\" ; }
-  }
-";
-
-// A library of one cell, in which `old` is written as `new`.
-fn library_with(rt: HostRuntime, old: &[u8], new: &[u8]) -> Result<Vec<u8>, Fail> {
-    let mut text = Vec::new(rt.alloc());
-    text.extend_from_slice(HEAD)?;
-    let mut rest = CELL;
-    for _ in 0..CELL.len() {
-        if rest.starts_with(old) && !old.is_empty() {
-            text.extend_from_slice(new)?;
-            rest = &rest[old.len()..];
-            break;
-        }
-        match rest {
-            [] => break,
-            [first, after @ ..] => {
-                text.push(*first)?;
-                rest = after;
-            }
+/// Writes names, with a bar before each.
+fn put_names(out: &mut String, names: &Names, ids: &[NameId]) -> Result<(), Fail> {
+    for id in ids {
+        if id.0 < names.count() {
+            write!(out, "|{}", names.text(*id))?;
         }
     }
-    text.extend_from_slice(rest)?;
-    text.extend_from_slice(b"}\n")?;
+    Ok(())
+}
+
+fn put_attr(out: &mut String, names: &Names, attr: &Attr) -> Result<(), Fail> {
+    put_names(out, names, &[attr.word])?;
+    let sign = if attr.complex { "()" } else { ":" };
+    write!(out, "{sign}")?;
+    put_names(out, names, attr.items.as_slice())?;
+    write!(out, ";")?;
+    Ok(())
+}
+
+/// A group in a line: its word and arguments, the number of the group around it, its attributes.
+fn put_group(out: &mut String, names: &Names, group: &Group) -> Result<(), Fail> {
+    put_names(out, names, &[group.word])?;
+    put_names(out, names, group.args.as_slice())?;
+    match group.parent {
+        Some(parent) => write!(out, " in {parent} ")?,
+        None => write!(out, " in the file ")?,
+    }
+    for attr in group.attrs.as_slice() {
+        put_attr(out, names, attr)?;
+    }
+    write!(out, "\n")?;
+    Ok(())
+}
+
+fn put_fault(out: &mut String, fault: &Refusal) -> Result<(), Fail> {
+    match fault {
+        Refusal::Fault(Fault::Design(DesignFault::Library(LibraryFault::Limit { place, .. }))) =>
+            write!(out, "F02 {}:{}", place.line, place.column)?,
+        Refusal::Fault(Fault::Design(DesignFault::Library(LibraryFault::Syntax { place, .. }))) =>
+            write!(out, "F01 {}:{}", place.line, place.column)?,
+        _ => write!(out, "other")?,
+    }
+    Ok(())
+}
+
+/// The groups of a text in lines, or where it is refused.
+fn reading(alloc: Global, text: &[u8]) -> Result<String, Fail> {
+    let mut names = Names::new(alloc)?;
+    let mut out = String::new(alloc);
+    match read_groups(alloc, &mut names, 10, text) {
+        Ok(groups) => {
+            for group in groups.groups.as_slice() {
+                put_group(&mut out, &names, group)?;
+            }
+        }
+        Err(fault) => put_fault(&mut out, &fault)?,
+    }
+    Ok(out)
+}
+
+#[test]
+fn reads_groups(rt: HostRuntime) -> Result<(), Fail> {
+    let cases = [
+        (b"".as_slice(), ""),
+        (b" /* no { group \n */ ".as_slice(), ""),
+        (
+            b"library (l) { a : b; }".as_slice(),
+            "|library|l in the file |a:|b;\n",
+        ),
+        (
+            b"library (l) {\r\n  a : 1.5\r\n  b (x, \"y z\" w) ;\r\n  c (d) e : \"f\" g }\r\n;\r\n".as_slice(),
+            "|library|l in the file |a:|1.5;|b()|x|y z|w;|c()|d;|e:|f|g;\n",
+        ),
+        (
+            b"library(l){cell(AND2){area:2;pin(A,B){direction:input;}pin(Y){}}cell(INV){}}".as_slice(),
+            "|library|l in the file \n|cell|AND2 in 0 |area:|2;\n|pin|A|B in 1 |direction:|input;\n|pin|Y in 1 \n|cell|INV in 0 \n",
+        ),
+        (
+            b"t () { values (\"0.1, 0.2\", \\\n   \"0.3, 0.4\"); x : \"a\\\nb\\\"c\\d\" }".as_slice(),
+            "|t in the file |values()|0.1, 0.2|0.3, 0.4;|x:|ab\"c\\d;\n",
+        ),
+        (
+            b"t(A[0:3],b/*c*/d \"e\"/**/f){a/* */:3/* x\n */4;wo\\\nrd : x/y}".as_slice(),
+            "|t|A[0:3]|b|d|e|f in the file |a:|3|4;|word:|x/y;\n",
+        ),
+        (b"a(){x:;y:\n}b(){};c(){z():}".as_slice(), "F01 2:15"),
+        (
+            b"a(){x : max(A, 3) , (b)\n y(1);}".as_slice(),
+            "|a in the file |x:|max|A|3|b;|y()|1;\n",
+        ),
+    ];
+    for (text, want) in cases {
+        let got = reading(rt.alloc(), text)?;
+        assert_eq!(rt; got.as_str(), want);
+    }
+    Ok(())
+}
+
+#[test]
+fn refuses_at_the_first_place(rt: HostRuntime) -> Result<(), Fail> {
+    let cases = [
+        (b"library (l) {".as_slice(), "F01 1:14"),
+        (b"library (l) {\n} x".as_slice(), "F01 2:4"),
+        (b"library (l) { /* open".as_slice(), "F01 1:22"),
+        (b"library (l) { x (\"open".as_slice(), "F01 1:23"),
+        (b"library \"open".as_slice(), "F01 1:9"),
+        (b"a (b) ;".as_slice(), "F01 1:7"),
+        (b"a : b".as_slice(), "F01 1:3"),
+        (b"a(b){};;".as_slice(), "F01 1:8"),
+        (b"a(\"b\"\"c\"){}".as_slice(), "F01 1:6"),
+        (b"a(\"b\"c){}".as_slice(), "F01 1:6"),
+        (b"a(b,,c){}".as_slice(), "F01 1:5"),
+        (b"a(,b){}".as_slice(), "F01 1:3"),
+        (b"a(b,){}".as_slice(), "F01 1:5"),
+        (b"a(){x:y:z}".as_slice(), "F01 1:8"),
+        (b"a(){x:y{}".as_slice(), "F01 1:8"),
+        (b"a(){x:\\\n}\n}".as_slice(), "F01 3:1"),
+        (b"a(){x y}".as_slice(), "F01 1:7"),
+        (b"a(){\"x\":y}".as_slice(), "F01 1:5"),
+        (b"a(){x:\x7f\xc3\xa9}".as_slice(), "F01 1:8"),
+        (b"}".as_slice(), "F01 1:1"),
+    ];
+    for (text, want) in cases {
+        let got = reading(rt.alloc(), text)?;
+        assert_eq!(rt; got.as_str(), want);
+    }
+    Ok(())
+}
+
+/// Groups within groups.
+fn nested(alloc: Global, depth: usize) -> Result<String, Fail> {
+    let mut text = String::new(alloc);
+    for _ in 0..depth {
+        text.push_str("g (x)\n{")?;
+    }
+    for _ in 0..depth {
+        text.push_str("}")?;
+    }
     Ok(text)
 }
 
-fn is_read(rt: HostRuntime, old: &[u8], new: &[u8]) -> Result<bool, Fail> {
-    let text = library_with(rt, old, new)?;
-    let cells = read_library(rt.alloc(), text.as_slice())
-        .ok()
-        .ok_or("memory is left")?;
-    Ok(cells.is_some())
-}
-
 #[test]
-fn one_cell(rt: HostRuntime) -> Result<(), Fail> {
-    let text = library_with(rt, b"", b"")?;
-    let cells = read_library(rt.alloc(), text.as_slice())
-        .ok()
-        .ok_or("memory is left")?;
-    let cells = cells.ok_or("the text is a library")?;
-    assert_eq!(rt; cells.len(), 1);
-    for cell in cells.as_slice() {
-        assert_eq!(rt; cell.name.all(), b"AND2".as_slice());
-        assert_eq!(rt; cell.area, 2_500_000);
-        assert_eq!(rt; cell.power.all(), b"VDD".as_slice());
-        assert_eq!(rt; cell.gnd.all(), b"VSS".as_slice());
-        assert_eq!(rt; cell.pins.len(), 3);
-        for pin in cell.pins.as_slice() {
-            let is_output =
-                matches!(&pin.function, Some(Function::And(a, b)) if a.all() == b"A".as_slice() && b.all() == b"B".as_slice());
-            assert_eq!(rt; is_output, pin.name.all() == b"Y".as_slice());
-        }
-    }
+fn counts_nested_groups(rt: HostRuntime) -> Result<(), Fail> {
+    let text = nested(rt.alloc(), 64)?;
+    let got = reading(rt.alloc(), text.as_bytes())?;
+    assert!(rt; got.ends_with("|g|x in 62 \n"));
+    let text = nested(rt.alloc(), 65)?;
+    let got = reading(rt.alloc(), text.as_bytes())?;
+    assert_eq!(rt; got.as_str(), "F02 65:2");
     Ok(())
 }
 
-#[test]
-fn texts_on_the_form(rt: HostRuntime) -> Result<(), Fail> {
-    let table: [(&[u8], &[u8]); 7] = [
-        (b"2.5", b"1000000"),
-        (b"A * B", b"A + B"),
-        (b"A * B", b"!A"),
-        (b"A * B", b"B"),
-        (b" { ", b"{"),
-        (b"  cell", b"\x0c\r\ncell"),
-        (b"voltage_name : VDD", b"voltage_name : AND2"),
-    ];
-    for (old, new) in table {
-        assert!(rt; is_read(rt, old, new)?);
+/// A group with a string of some bytes, quotes included.
+fn long(alloc: Global, size: usize) -> Result<String, Fail> {
+    let mut text = String::from_str(alloc, "a(){x:\"")?;
+    for _ in 2..size {
+        text.push_str("b")?;
     }
-    Ok(())
+    text.push_str("\";y z}")?;
+    Ok(text)
 }
 
 #[test]
-fn texts_off_the_form(rt: HostRuntime) -> Result<(), Fail> {
-    let table: [(&[u8], &[u8]); 22] = [
-        (b"area", b"/* a */ area"),
-        (b"2.5 ;", b"2.5 ,"),
-        (b"2.5", b"x"),
-        (b"2.5", b"1000000.000001"),
-        (b"area : 2.5 ;", b""),
-        (b"A * B", b"A * C"),
-        (b"A * B", b"A * Y"),
-        (b"A * B", b"A  * B"),
-        (b"A * B", b"A ^ B"),
-        (b"A * B", b"! A"),
-        (b"!VDD + VSS", b"!VSS + VDD"),
-        (b"(AND2)", b"(lp_and)"),
-        (b"(AND2)", b"(2AND)"),
-        (b"(AND2)", b"(AND2) (x)"),
-        (b"(B)", b"(A)"),
-        (b"(B)", b"(VDD)"),
-        (b"(B)", b"(lp_b)"),
-        (b"voltage_name : VDD", b"voltage_name : lp_v"),
-        (b"primary_ground", b"primary_power"),
-        (b"direction : input", b"direction : inout"),
-        (
-            b"output ; function : \"A * B\" ; power_down_function : \"!VDD + VSS\" ;",
-            b"input ;",
-        ),
-        (b"  }\n", b"  } }\n"),
-    ];
-    for (old, new) in table {
-        assert!(rt; !is_read(rt, old, new)?);
-    }
-    assert!(rt; matches!(read_library(rt.alloc(), b"library (l) { }"), Ok(None)));
-    assert!(rt; matches!(read_library(rt.alloc(), b""), Ok(None)));
-    Ok(())
-}
-
-#[test]
-fn a_name_twice(rt: HostRuntime) -> Result<(), Fail> {
-    let mut text = Vec::new(rt.alloc());
-    text.extend_from_slice(HEAD)?;
-    text.extend_from_slice(CELL)?;
-    text.extend_from_slice(CELL)?;
-    text.extend_from_slice(b"}")?;
-    assert!(rt; matches!(read_library(rt.alloc(), text.as_slice()), Ok(None)));
+fn measures_tokens(rt: HostRuntime) -> Result<(), Fail> {
+    let text = long(rt.alloc(), 1_048_576)?;
+    let got = reading(rt.alloc(), text.as_bytes())?;
+    assert_eq!(rt; got.as_str(), "F01 1:1048586");
+    let text = long(rt.alloc(), 1_048_577)?;
+    let got = reading(rt.alloc(), text.as_bytes())?;
+    assert_eq!(rt; got.as_str(), "F02 1:7");
     Ok(())
 }

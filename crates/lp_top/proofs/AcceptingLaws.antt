@@ -8,14 +8,14 @@ use Rattle.lp_small.specs.declared.netlist.Module.{Module}
 use Rattle.lp_small.specs.declared.intent.Intent.{Intent}
 use Rattle.lp_small.specs.Verilog.{IsSource}
 use Rattle.lp_small.specs.Upf.{IsIntent}
-use Rattle.lp_meaning.specs.Intent.{Design}
-use Rattle.lp_meaning.specs.Faults.{not_yet, Inputs, HasLoop, HasCells, ReadsBoth, FitsCells, ReadsAll, FirstFault, no_library, no_netlist, no_target, no_fit, no_intent, loop}
+use Rattle.lp_small_meaning.specs.Intent.{Design}
+use Rattle.lp_small_meaning.specs.Faults.{not_yet, Inputs, HasLoop, HasCells, ReadsBoth, FitsCells, ReadsAll, FirstFault, no_library, no_netlist, no_target, no_fit, no_intent, loop}
 use Rattle.lp_top.specs.Design.{inputs_of}
 use Rattle.lp_top.specs.declared.design.Refusal.{Refusal}
 use Rattle.lp_top.specs.declared.design.Refusal.TheVariants as refusals
 use Rattle.lp_top.specs.Accepting.{IsLine, RefusesBy, OrFault, DenotesCells, Nothing, Fitting, Ordered, Looped, Judged, Unjudged, IsAccepted, design_of}
 use Rattle.lp_top.specs.declared.accepting.Accepted.{Accepted}
-use Rattle.lp_meaning.specs.Sound.{IsOrdered}
+use Rattle.lp_small_meaning.specs.Sound.{IsOrdered}
 
 pub refuses-line : (r : Result (List ℕ) Memory) (line : List ℕ) (x : Refusal) → IfOk r (λ b. b ≡ line) → RefusesBy r x → IsLine line x
 refuses-line (Ok b) line x e h = subst (λ l. IsLine l x) e h

@@ -8,11 +8,11 @@ use Rattle.lp_small.specs.Liberty.{is_free_name, IsLibrary}
 use Rattle.lp_small.specs.Verilog.{Reads}
 use Rattle.lp_small.specs.Layout.{layout}
 use Rattle.lp_small.specs.WellFormed.{IsWellFormed}
-use Rattle.lp_meaning.specs.Intent.{Design}
-use Rattle.lp_meaning.specs.Sound.{IsSound, IsOrdered}
-use Rattle.lp_meaning.specs.Faults.{Inputs, ReadsAll}
-use Rattle.lp_meaning.specs.Written.{powered, supply_ports, Supplied, report_text, Headline}
-use Rattle.lp_meaning.specs.Promise.{IsWritten, HeadlineHolds}
+use Rattle.lp_small_meaning.specs.Intent.{Design}
+use Rattle.lp_small_meaning.specs.Sound.{IsSound, IsOrdered}
+use Rattle.lp_small_meaning.specs.Faults.{Inputs, ReadsAll}
+use Rattle.lp_small_meaning.specs.Written.{powered, supply_ports, Supplied, report_text, Headline}
+use Rattle.lp_small_meaning.specs.Promise.{IsWritten, HeadlineHolds}
 use Rattle.lp_top.specs.declared.accepting.Accepted.{Accepted}
 use Rattle.lp_top.specs.Accepting.{IsAccepted, design_of}
 

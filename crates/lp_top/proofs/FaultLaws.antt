@@ -14,8 +14,8 @@ use Rattle.lp_small.specs.declared.intent.Intent.{Intent}
 use Rattle.lp_small.specs.Liberty.{IsLibrary}
 use Rattle.lp_small.specs.Verilog.{Reads, IsSource}
 use Rattle.lp_small.specs.Upf.{IsIntent}
-use Rattle.lp_meaning.specs.Intent.{Design}
-use Rattle.lp_meaning.specs.Faults.{Inputs, HasCells, Accepts, HasLoop, FirstFault, no_library, no_netlist, no_target, no_fit, no_intent, loop, not_yet, unknown_module, first_unknown, is_fit}
+use Rattle.lp_small_meaning.specs.Intent.{Design}
+use Rattle.lp_small_meaning.specs.Faults.{Inputs, HasCells, Accepts, HasLoop, FirstFault, no_library, no_netlist, no_target, no_fit, no_intent, loop, not_yet, unknown_module, first_unknown, is_fit}
 
 module _ (inputs : Inputs)
     (one_library : (text : List ℕ) (a b : List Cell) → IsLibrary text a → IsLibrary text b → a ≡ b)

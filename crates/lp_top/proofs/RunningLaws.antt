@@ -17,8 +17,8 @@ use Rattle.lp_small.specs.Verilog.{Reads}
 use Rattle.lp_small.specs.Upf.{IsIntent}
 use Rattle.lp_small.specs.Names.{Name}
 use Rattle.lp_top.proofs.FaultLaws.{one_fault, no_fault}
-use Rattle.lp_meaning.specs.Faults.{FirstFault}
-use Rattle.lp_meaning.specs.Promise.{HeadlineHolds}
+use Rattle.lp_small_meaning.specs.Faults.{FirstFault}
+use Rattle.lp_small_meaning.specs.Promise.{HeadlineHolds}
 use Rattle.lp_top.specs.declared.outcome.Outcome.{Outcome}
 use Rattle.lp_top.specs.declared.outcome.Outcome.TheVariants.{Done, Refused, TooLong, Usage, ReadFault, WriteFault, NoMemory}
 use Rattle.lp_top.specs.Reading.{count_more}

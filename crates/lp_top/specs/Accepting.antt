@@ -7,9 +7,9 @@ use Rattle.lp_small.specs.declared.netlist.Instance.{Instance}
 use Rattle.lp_small.specs.declared.intent.Intent.{Intent}
 use Rattle.lp_small.specs.Liberty.{IsLibrary}
 use Rattle.lp_small.specs.Upf.{IsIntent}
-use Rattle.lp_meaning.specs.Intent.{Design}
-use Rattle.lp_meaning.specs.Sound.{IsOrdered}
-use Rattle.lp_meaning.specs.Faults.{Inputs, HasLoop, Accepts, not_yet, unknown_module, first_unknown, is_fit}
+use Rattle.lp_small_meaning.specs.Intent.{Design}
+use Rattle.lp_small_meaning.specs.Sound.{IsOrdered}
+use Rattle.lp_small_meaning.specs.Faults.{Inputs, HasLoop, Accepts, not_yet, unknown_module, first_unknown, is_fit}
 use Rattle.lp_top.specs.declared.design.Refusal.{Refusal}
 use Rattle.lp_top.specs.declared.design.Refusal.TheVariants as refusals
 use Rattle.lp_top.specs.declared.accepting.Accepted.{Accepted}

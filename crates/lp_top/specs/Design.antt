@@ -1,6 +1,6 @@
 -- The inputs of an insertion, and when it is refused.
 use Rattle.std.specs.Prelude.{◌≡◌, ℕ, List, Result, Ok, Err}
-use Rattle.lp_meaning.specs.Faults.{Inputs, FirstFault}
+use Rattle.lp_small_meaning.specs.Faults.{Inputs, FirstFault}
 use Rattle.lp_top.specs.declared.design.Written.{Written}
 use Rattle.lp_top.specs.declared.design.Refusal.{Refusal}
 use Rattle.lp_top.specs.declared.design.Refusal.TheVariants as refusals

@@ -5,7 +5,7 @@ use Rattle.lp_text.specs.Shelf.{Files, with_file}
 use Rattle.lp_text.specs.declared.shelf.ShelfFault.{ShelfFault}
 use Rattle.lp_text.specs.declared.shelf.ShelfFault.TheVariants as causes
 use Rattle.lp_small.specs.Names.{Name}
-use Rattle.lp_meaning.specs.Faults.{Inputs}
+use Rattle.lp_small_meaning.specs.Faults.{Inputs}
 use Rattle.lp_top.specs.declared.reading.ReadStop.{ReadStop}
 use Rattle.lp_top.specs.declared.outcome.Outcome.{Outcome}
 use Rattle.lp_top.specs.declared.outcome.Outcome.TheVariants.{Done, TooLong, Usage, ReadFault, WriteFault, NoMemory}

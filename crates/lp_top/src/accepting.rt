@@ -4,20 +4,20 @@ ghost use Rattle.lp_small.specs.Liberty.{IsLibrary};
 ghost use Rattle.lp_small.specs.Verilog.{IsSource};
 ghost use Rattle.lp_small.specs.Upf.{IsIntent};
 ghost use Rattle.lp_small.specs.WellFormed.{IsWellFormed};
-ghost use Rattle.lp_meaning.specs.Faults.{not_yet as line_not_yet, unknown_module as line_unknown, FirstFault};
+ghost use Rattle.lp_small_meaning.specs.Faults.{not_yet as line_not_yet, unknown_module as line_unknown, FirstFault};
 ghost use Rattle.lp_top.specs.Accepting.{IsLine, RefusesBy, OrFault, DenotesCells, Nothing, Misfits, Fitting, Ordered, Looped, Judged, Unjudged, IsAccepted};
 ghost use Rattle.lp_top.specs.Design.{inputs_of};
 
 use crate::design::{Fault, Refusal};
-use lp_cells::CellIndex;
-use lp_hier::{is_fit, source_is_small, unknown_target};
-use lp_liberty::read_library;
-use lp_meaning::accepted_cells_differ;
-use lp_paths::{has_loop, ordered_has_no_loop};
 use lp_small::{Cell, Instance, Intent, Module};
+use lp_small_cells::CellIndex;
+use lp_small_hier::{is_fit, source_is_small, unknown_target};
+use lp_small_liberty::read_library;
+use lp_small_meaning::accepted_cells_differ;
+use lp_small_paths::{has_loop, ordered_has_no_loop};
+use lp_small_upf::read_intent;
 use lp_small_verilog::read_netlist;
 use lp_text::{Bytes, NoMemory};
-use lp_upf::read_intent;
 use sqlite_items::Items;
 use std::alloc::Global;
 

@@ -1,24 +1,24 @@
 ghost use Rattle.std.specs.Prelude.{◌≡◌, ℕ, ◌≤◌, ◌^◌, List, length, map, IfOk, IsTrue};
 ghost use Rattle.lp_small.specs.Names.{is_distinct};
 ghost use Rattle.lp_small.specs.Layout.{layout};
-ghost use Rattle.lp_meaning.specs.Written.{powered, report_text};
-ghost use Rattle.lp_meaning.specs.Promise.{IsWritten, HeadlineHolds};
-ghost use Rattle.lp_meaning.specs.Faults.{FirstFault, Accepts};
-ghost use Rattle.lp_meaning.specs.Intent.{Design};
+ghost use Rattle.lp_small_meaning.specs.Written.{powered, report_text};
+ghost use Rattle.lp_small_meaning.specs.Promise.{IsWritten, HeadlineHolds};
+ghost use Rattle.lp_small_meaning.specs.Faults.{FirstFault, Accepts};
+ghost use Rattle.lp_small_meaning.specs.Intent.{Design};
 ghost use Rattle.lp_top.specs.Design.{inputs_of, RefusedBy, GivesFault, GivesTexts};
 
 use crate::accepting::{Accepted, accept};
-use lp_cells::CellIndex;
-use lp_liberty::one_library;
-use lp_meaning::{
+use lp_small::{Cell, Intent, Module};
+use lp_small_cells::CellIndex;
+use lp_small_liberty::one_library;
+use lp_small_meaning::{
     accepted_cells_differ, accepted_is_sound, headline as theorem, supplied, well_formed,
 };
-use lp_pg::connect_all;
-use lp_small::{Cell, Intent, Module};
+use lp_small_pg::connect_all;
+use lp_small_upf::one_intent;
 use lp_small_verilog::one_netlist;
+use lp_small_vwrite::{reads_back, write_netlist};
 use lp_text::{Bytes, NoMemory};
-use lp_upf::one_intent;
-use lp_vwrite::{reads_back, write_netlist};
 use std::alloc::Global;
 use std::marker::Model;
 

@@ -7,10 +7,10 @@ ghost use Rattle.lp_top.specs.Words.{CommandFiles, IsCommand, clashes};
 use crate::inserting::attempt;
 use crate::outcome::{Outcome, UsageFault};
 use crate::parsing::{command, has_clash};
-use lp_liberty::one_library;
+use lp_small_liberty::one_library;
+use lp_small_upf::one_intent;
 use lp_small_verilog::one_netlist;
 use lp_text::{NoMemory, Shelf, ShelfFault, Word};
-use lp_upf::one_intent;
 use std::alloc::Global;
 
 /// The line of an outcome, with its line feed.

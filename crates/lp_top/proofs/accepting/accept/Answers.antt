@@ -1,7 +1,7 @@
 use Rattle.std.proofs.Common.{◌≡◌, map, sym, subst, refl}
 use Rattle.std.specs.Prelude.{Err}
 use Rattle.lp_small.specs.Names.{is_distinct}
-use Rattle.lp_meaning.proofs.WellFormed.{reads-well_formed}
+use Rattle.lp_small_meaning.proofs.WellFormed.{reads-well_formed}
 use Rattle.lp_top.specs.Accepting.{OrFault, Judged, Unjudged}
 use Rattle.lp_top.proofs.AcceptingLaws.{exit-cells, exit-source, exit-judge, judged-accepted, small}
 use Rattle.lp_top.proofs.accepting.accept.Goals as goal

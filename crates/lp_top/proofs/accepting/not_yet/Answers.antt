@@ -1,4 +1,4 @@
-use Rattle.lp_meaning.specs.Faults.{not_yet}
+use Rattle.lp_small_meaning.specs.Faults.{not_yet}
 use Rattle.lp_top.proofs.AcceptingLaws.{refuses-line}
 use Rattle.lp_top.proofs.accepting.not_yet.Goals as goal
 

@@ -1,6 +1,0 @@
-use Rattle.std.proofs.Common.{◌≡◌, drop}
-use Rattle.lp_groups.specs.Lexing.{gap_start, skip}
-use Rattle.lp_groups.proofs.gap.skip.Given as goal
-
-abbrev pub invariant-loop-at : goal.invariant-loop-at
-invariant-loop-at l = skip l.lines l.gap l.at (drop l.at l.text) ≡ skip l.lines gap_start 0 l.text

@@ -1,5 +1,0 @@
-use Rattle.lp_groups.proofs.Answered.{one_list}
-use Rattle.lp_groups.proofs.laws.one_list_of_groups.Goals as goal
-
-pub returns : goal.returns
-returns c = one_list

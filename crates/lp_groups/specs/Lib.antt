@@ -1,9 +1,0 @@
-pub mod Denotes
-pub mod Grammar
-pub mod Lexing
-pub mod Machine
-pub mod Meaning
-pub mod Outcome
-pub mod Spelling
-pub mod Stops
-pub mod Tokens

@@ -1,0 +1,3 @@
+pub mod Productions
+pub mod Reading
+pub mod View
