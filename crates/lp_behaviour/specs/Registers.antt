@@ -11,10 +11,13 @@ use Rattle.lp_model.specs.declared.library.Action.{Action}
 use Rattle.lp_model.specs.declared.library.Action.TheVariants.{High, Low, Rise, Fall}
 use Rattle.lp_behaviour.specs.Functions.{function_value}
 
--- what the data makes of the state: a flop takes the data from before its clock rose, a latch the data while it is enabled
+-- what a clock and data, each before the event and in it, make of the state: a flop takes the data from before its clock rose, a latch the data while it is enabled
+abbrev pub loaded_of : StateKind → Tern → Tern → Tern → Tern → Tern → Tern
+loaded_of Flop last_clock now_clock last_data now_data q = choose_of (rise_of last_clock now_clock) last_data q
+loaded_of Latch last_clock now_clock last_data now_data q = choose_of now_clock now_data q
+
 abbrev pub loaded_by : StateKind → Cell → StateGroup → List Tern → List Tern → Tern → Tern
-loaded_by Flop cell g last now q = choose_of (rise_of (function_value cell last q g.clock) (function_value cell now q g.clock)) (function_value cell last q g.next) q
-loaded_by Latch cell g last now q = choose_of (function_value cell now q g.clock) (function_value cell now q g.next) q
+loaded_by kind cell g last now q = loaded_of kind (function_value cell last q g.clock) (function_value cell now q g.clock) (function_value cell last q g.next) (function_value cell now q g.next) q
 
 -- what clear and preset make of a value: one of them has to be 0
 abbrev pub forced_of : Tern → Tern → Tern → Tern

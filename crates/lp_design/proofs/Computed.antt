@@ -19,7 +19,7 @@ use Rattle.lp_tern.specs.declared.supply.SupplyState.TheVariants.{On, Off, Unkno
 use Rattle.lp_design.specs.Settled.{Key, At, Of, Design, Event, Registers, output, computed}
 use Rattle.lp_design.specs.Samples.{plain, switched_from_inside, read_inside, fed_through, wide, wide_output, by_supply, with_strategies, isolation, shifting, network, switched, switched_network, volts, port}
 use Rattle.lp_settling.specs.Settling.{has, IsOrder, Reaches}
-use Rattle.lp_settling.specs.Laws.{order-no_loop}
+use Rattle.lp_settling.proofs.Laws.{order-no_loop}
 use Rattle.lp_design.specs.Reads.{keys, reads}
 
 bits_in_order : map way_of (boundary plain (with_strategies [])) ≡ PortBit [] (codes "a") None ∷ PortBit [] (codes "en") None ∷ PortBit [] (codes "y") None ∷ PortBit (codes "u" ∷ []) (codes "i") None ∷ PortBit (codes "u" ∷ []) (codes "o") None ∷ []

@@ -8,7 +8,8 @@ use Rattle.lp_tern.specs.declared.tern.Tern.{Tern}
 use Rattle.lp_tern.specs.declared.tern.Tern.TheVariants.{One, X}
 use Rattle.lp_tern.specs.Values.{choose_of}
 use Rattle.lp_design.specs.Intents.{SetNumber, Strategy, Intent, Network}
-use Rattle.lp_design.specs.Settled.{Assignment, active, clamped, kept, known, set_on, through}
+use Rattle.lp_behaviour.specs.Signals.{known}
+use Rattle.lp_design.specs.Settled.{Assignment, active, clamped, kept, set_on, through}
 use Rattle.lp_design.specs.Winners.{IsIn, beats_all, winner_among}
 use Rattle.lp_design.specs.Chains.{Operator, Clamp, Shift, supply_behind, rail_after}
 

@@ -6,7 +6,7 @@ use Rattle.lp_tern.specs.declared.tern.Tern.{Tern}
 use Rattle.lp_tern.specs.declared.supply.SupplyState.TheVariants.{Off}
 use Rattle.lp_tern.specs.Values.{replacements, agreed, choose_of, choose_supply_of}
 use Rattle.lp_expr.specs.Formula.{truth, completions}
-use Rattle.lp_settling.specs.Agreement.{agree-head, agree-tail, agree-left, agree-right}
+use Rattle.lp_settling.proofs.Agreement.{agree-head, agree-tail, agree-left, agree-right}
 use Rattle.lp_settling.specs.Settling.{has, LooksAt}
 use Rattle.lp_model.specs.LibraryView.{ExprView, PinView, CellView}
 use Rattle.lp_design.specs.Keys.{Name, Path, Node, Inner, Outer, Fixed, Source, CellPin, SwitchedPin, Environment, From}
@@ -15,7 +15,8 @@ use Rattle.lp_design.specs.Graph.{source_of}
 use Rattle.lp_design.specs.Intents.{SetNumber, SupplySet, Origin, FromPort, FromSwitch, Strategy, Intent, Network}
 use Rattle.lp_design.specs.Domains.{domain_of, primary_of, start_rail}
 use Rattle.lp_design.specs.Chains.{Operator, Clamp, Shift, operators_at, rail}
-use Rattle.lp_design.specs.Settled.{Key, At, Of, Logic, State, Assignment, Event, Registers, Design, at, at_some, logic_in, state_in, is_on, both_on, set_at, set_on, kept, known, sensed, active_at, clamped, through, pin_named, state_named, value_named, named_value, function_of, output_by, output_of, node_at_pin, node_equation, origin_equation, equation}
+use Rattle.lp_behaviour.specs.Signals.{known}
+use Rattle.lp_design.specs.Settled.{Key, At, Of, Logic, State, Assignment, Event, Registers, Design, at, at_some, logic_in, state_in, is_on, both_on, set_at, set_on, kept, sensed, active_at, clamped, through, pin_named, state_named, value_named, named_value, function_of, output_by, output_of, node_at_pin, node_equation, origin_equation, equation}
 use Rattle.lp_design.specs.Reads.{set_keys_of, set_keys, node_keys, some_node_keys, control_keys, operator_keys, name_keys, function_keys, output_keys, source_keys, origin_keys, reads, keys}
 
 module _ (A B : Assignment) where

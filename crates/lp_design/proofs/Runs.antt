@@ -2,7 +2,7 @@
 use Rattle.std.proofs.Common.{◌≡◌, Option, Some, List, [], ◌∷◌, refl, sym, subst, ◌∙◌}
 use Rattle.lp_tern.specs.declared.tern.Tern.TheVariants.{X}
 use Rattle.lp_settling.specs.Settling.{IsOrder, Covers, SettlesOnce}
-use Rattle.lp_settling.specs.Laws.{settles_once}
+use Rattle.lp_settling.proofs.Laws.{settles_once}
 use Rattle.lp_design.specs.Settled.{Assignment, Design, Event, Key, Registers, Logic, equation}
 use Rattle.lp_design.specs.Reads.{keys, reads}
 use Rattle.lp_design.specs.Registers.{States, IsRun, RunsOnce, states_after}

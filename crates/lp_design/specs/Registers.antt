@@ -3,13 +3,11 @@ use Rattle.std.specs.Prelude.{◌≡◌, ℕ, Bool, true, false, not, ◌&&◌, 
 use Rattle.std.specs.List.{list_any}
 use Rattle.lp_tern.specs.declared.tern.Tern.{Tern}
 use Rattle.lp_tern.specs.declared.tern.Tern.TheVariants.{X}
-use Rattle.lp_tern.specs.Values.{choose_of, rise_of}
 use Rattle.lp_model.specs.declared.library.Action.{Action}
 use Rattle.lp_model.specs.declared.library.StateKind.{StateKind}
-use Rattle.lp_model.specs.declared.library.StateKind.TheVariants.{Flop, Latch}
 use Rattle.lp_model.specs.declared.intent.StrategyKind.TheVariants.{Retention}
 use Rattle.lp_model.specs.LibraryView.{StateView, CellView}
-use Rattle.lp_behaviour.specs.Registers.{forced_of, fires_of, main_of, copy_of}
+use Rattle.lp_behaviour.specs.Registers.{loaded_of, forced_of, fires_of, main_of, copy_of}
 use Rattle.lp_design.specs.Keys.{Name, Path, same_path, Node}
 use Rattle.lp_design.specs.Netlists.{Structure, cell_at}
 use Rattle.lp_design.specs.Graph.{numbered}
@@ -69,10 +67,8 @@ retention i p x = inserting (retention_winner i p x)
 
 -- ---- the next state of a cell (Liberty ff and latch)
 
--- a flop takes its data from before its clock rose, a latch while it is enabled
 abbrev pub loaded : StateKind → CellView → StateView → (Name → Tern) → (Name → Tern) → Tern → Tern
-loaded Flop c g last now q = choose_of (rise_of (function_value c last q g.clock) (function_value c now q g.clock)) (function_value c last q g.next) q
-loaded Latch c g last now q = choose_of (function_value c now q g.clock) (function_value c now q g.next) q
+loaded kind c g last now q = loaded_of kind (function_value c last q g.clock) (function_value c now q g.clock) (function_value c last q g.next) (function_value c now q g.next) q
 
 abbrev pub state_after : CellView → Option StateView → (Name → Tern) → (Name → Tern) → Tern → Tern
 state_after c None last now q = X

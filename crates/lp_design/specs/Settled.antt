@@ -8,6 +8,8 @@ use Rattle.lp_tern.specs.Values.{replacements, agreed, choose_of, choose_supply_
 use Rattle.lp_expr.specs.Formula.{truth, completions}
 use Rattle.lp_model.specs.NetlistView.{InstanceView}
 use Rattle.lp_model.specs.LibraryView.{ExprView, PinView, StateView, CellView}
+use Rattle.lp_rows.specs.Voltages.{under_of}
+use Rattle.lp_behaviour.specs.Signals.{known}
 use Rattle.lp_design.specs.Keys.{Name, Path, Node, Outer, Fixed, Source, CellPin, SwitchedPin, Environment, From}
 use Rattle.lp_design.specs.Netlists.{Structure, first, module_at, cell_at, instance_named}
 use Rattle.lp_design.specs.Graph.{source_of, trail, pin_node}
@@ -34,9 +36,6 @@ logic_in (State s) = X
 abbrev pub state_in : Value → SupplyState
 state_in (Logic t) = Unknown
 state_in (State s) = s
-
-abbrev pub known : Bool → Tern
-known b = if b then One else Zero
 
 -- the value at a node: constants have theirs
 abbrev pub at : Assignment → Node → Tern
@@ -67,16 +66,14 @@ set_on n A k = both_on A (set_at n k)
 abbrev pub kept : Bool → Tern → Tern
 kept on v = if on then v else X
 
-abbrev pub microvolts : SupplyState → ℕ
-microvolts (On v) = v
-microvolts _ = 0
+-- a driver's set is too low for a reader's
+abbrev pub sets_under : ℕ → Assignment → Option SupplySet → Option SupplySet → Bool
+sets_under margin A None t = false
+sets_under margin A (Some r) None = false
+sets_under margin A (Some r) (Some t) = under_of (state_of A r.power) (state_of A r.gnd) (state_of A t.power) (state_of A t.gnd) margin
 
--- a driver's set is too low for a reader's: both are on, and its voltage with the margin is below the reader's
 abbrev pub is_under : Network → Assignment → Option SetNumber → Option SetNumber → Bool
-is_under n A r t = set_on n A r && (set_on n A t && nat_lt (voltage r + n.margin) (voltage t))
-  where
-    voltage : Option SetNumber → ℕ
-    voltage k = unwrap_or (option_and_then (λ (s : SupplySet). Some (microvolts (state_of A s.power))) (option_and_then (λ x. slice_get n.sets x) k)) 0
+is_under n A r t = sets_under n.margin A (set_at n r) (set_at n t)
 
 -- ---- operators
 

@@ -4,13 +4,14 @@ ghost use Rattle.lp_tern.specs.declared.tern.Tern.{Tern};
 ghost use Rattle.lp_tern.specs.declared.tern.Tern.TheVariants.{One, X};
 ghost use Rattle.lp_model.specs.declared.side.Side.{Side};
 ghost use Rattle.lp_model.specs.declared.intent.StrategyKind.{StrategyKind};
+ghost use Rattle.lp_behaviour.specs.Signals.{known};
 ghost use Rattle.lp_design.specs.Intents.{SetNumber, Strategy, Intent, Network};
 ghost use Rattle.lp_design.specs.Winners.{Crossing, IsIn, applying, rank, winner};
 ghost use Rattle.lp_design.specs.Chains.{Operator, Clamp, by_rule, clamp_of, part, rail_after, target};
 ghost use Rattle.lp_settling.specs.Settling.{IsOrder, Covers, SettlesOnce};
 ghost use Rattle.lp_design.specs.Keys.{Node};
 ghost use Rattle.lp_design.specs.Chains.{rail};
-ghost use Rattle.lp_design.specs.Settled.{Assignment, Design, Event, HasFuel, Key, Registers, SettlesIntent, active, at, equation, known, set_on, through};
+ghost use Rattle.lp_design.specs.Settled.{Assignment, Design, Event, HasFuel, Key, Registers, SettlesIntent, active, at, equation, set_on, through};
 ghost use Rattle.lp_design.specs.Reads.{keys, reads};
 ghost use Rattle.lp_design.specs.Registers.{States, RunsOnce};
 

@@ -8,7 +8,7 @@ use Rattle.lp_tern.specs.declared.supply.SupplyState.TheVariants.{Off}
 use Rattle.lp_tern.specs.Values.{replacements, agreed, choose_supply_of}
 use Rattle.lp_expr.specs.Formula.{truth, completions}
 use Rattle.lp_settling.specs.Settling.{has, LooksAt}
-use Rattle.lp_settling.specs.Agreement.{agree-head, agree-left, agree-right}
+use Rattle.lp_settling.proofs.Agreement.{agree-head, agree-left, agree-right}
 use Rattle.lp_model.specs.declared.library.Shifter.{Shifter}
 use Rattle.lp_model.specs.LibraryView.{ExprView, SwitchedView, PinView, CellView}
 use Rattle.lp_design.specs.Keys.{Name, Path, Node, Inner, Outer, Fixed, Source, CellPin, SwitchedPin, Environment, From}

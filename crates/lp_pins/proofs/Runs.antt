@@ -2,7 +2,7 @@
 use Rattle.std.proofs.Common.{◌≡◌, Option, Some, List, [], ◌∷◌, refl, sym, subst, ◌∙◌}
 use Rattle.lp_tern.specs.declared.tern.Tern.TheVariants.{X}
 use Rattle.lp_settling.specs.Settling.{IsOrder, Covers, SettlesOnce}
-use Rattle.lp_settling.specs.Laws.{settles_once}
+use Rattle.lp_settling.proofs.Laws.{settles_once}
 use Rattle.lp_design.specs.Settled.{Registers, Logic}
 use Rattle.lp_design.specs.Registers.{States}
 use Rattle.lp_pins.specs.Pins.{PinAssignment, Powered, PinEvent, PinKey, pin_equation}

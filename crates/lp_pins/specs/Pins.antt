@@ -18,10 +18,12 @@ use Rattle.lp_model.specs.declared.library.ShifterKind.{ShifterKind}
 use Rattle.lp_model.specs.declared.library.ShifterKind.TheVariants.{LowToHigh, HighToLow, Both}
 use Rattle.lp_model.specs.declared.library.VoltageRange.{VoltageRange}
 use Rattle.lp_model.specs.LibraryView.{ExprView, SwitchedView, PgPinView, PinView, CellView}
+use Rattle.lp_rows.specs.Voltages.{under_of}
+use Rattle.lp_behaviour.specs.Signals.{known}
 use Rattle.lp_design.specs.Keys.{Name, Path, same_path, Node, Inner, Outer, Fixed, Source, CellPin, SwitchedPin, Environment, From}
 use Rattle.lp_design.specs.Netlists.{Structure, first, cell_at}
 use Rattle.lp_design.specs.Graph.{source_of, trail, beginning}
-use Rattle.lp_design.specs.Settled.{Value, Logic, State, Registers, logic_in, state_in, known, kept, is_on, microvolts, pin_named, node_at_pin, output_by, function_value}
+use Rattle.lp_design.specs.Settled.{Value, Logic, State, Registers, logic_in, state_in, kept, is_on, pin_named, node_at_pin, output_by, function_value}
 
 -- ---- supplies
 
@@ -110,7 +112,7 @@ pair_on s = is_on s.power && is_on s.gnd
 
 -- a driver's supply is too low for a reader's
 abbrev pub pair_under : ℕ → Pair → Pair → Bool
-pair_under margin r t = pair_on r && (pair_on t && nat_lt (microvolts r.power + margin) (microvolts t.power))
+pair_under margin r t = under_of r.power r.gnd t.power t.gnd margin
 
 -- the related supply of a signal pin
 abbrev pub related : Powered → PinAssignment → Path → Name → CellView → PinView → Pair
@@ -242,6 +244,10 @@ type_takes Both a b = true
 
 abbrev pub takes : Shifter → ℕ → ℕ → Bool
 takes f a b = type_takes f.kind a b && (holds f.input a && holds f.output b)
+
+abbrev pub microvolts : SupplyState → ℕ
+microvolts (On v) = v
+microvolts _ = 0
 
 -- both supplies are on and outside the cell's type or ranges
 abbrev pub is_outside : Shifter → Pair → Pair → Bool

@@ -1,5 +1,5 @@
 use Rattle.lp_tern.specs.declared.tern.Tern.TheVariants.{X}
-use Rattle.lp_settling.specs.Laws.{settles_once}
+use Rattle.lp_settling.proofs.Laws.{settles_once}
 use Rattle.lp_design.specs.Settled.{Logic, equation}
 use Rattle.lp_design.specs.Reads.{keys, reads}
 use Rattle.lp_design.proofs.Looks.{looks}

@@ -1,5 +1,5 @@
 use Rattle.lp_tern.specs.declared.tern.Tern.TheVariants.{X}
-use Rattle.lp_settling.specs.Laws.{settles_once}
+use Rattle.lp_settling.proofs.Laws.{settles_once}
 use Rattle.lp_design.specs.Settled.{Logic}
 use Rattle.lp_pins.specs.Pins.{pin_equation}
 use Rattle.lp_pins.specs.Reads.{keys, reads}
