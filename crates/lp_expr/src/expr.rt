@@ -1,4 +1,4 @@
-ghost use Rattle.std.specs.Prelude.{◌≡◌, ◌<◌, ◌≤◌, ◌^◌, length, vec_len, IfOk};
+ghost use Rattle.std.specs.Prelude.{◌≡◌, ◌<◌, ◌≤◌, ◌^◌, [], ◌∷◌, length, vec_len, IfOk};
 
 use crate::step::Step;
 use crate::table::table_of;
@@ -29,7 +29,10 @@ impl Model for Expr {
 }
 
 impl Expr {
-    ghost use Rattle.lp_expr.specs.Formula.{truth, digits};
+    ghost use Rattle.lp_tern.specs.declared.tern.Tern.{Tern};
+    ghost use Rattle.lp_tern.specs.Values.{negate_of};
+    ghost use Rattle.lp_expr.specs.declared.step.Step.TheVariants.{Variable, Not};
+    ghost use Rattle.lp_expr.specs.Formula.{truth, digits, value_of};
 
     /// The expression with these steps over these variables, which the steps name by their places: a
     /// variable that is not among them is 0, and so is an operand that is missing.
@@ -51,9 +54,34 @@ impl Expr {
         })
     }
 
-    /// The variables, in the order in which they first occur.
+    /// The expression that is one variable.
+    ///
+    /// # Errors
+    ///
+    /// Only where memory is refused.
+    pub fn variable(alloc: Global, name: NameId) -> Result<Expr, NoMemory>
+        ensures is { IfOk result (λ e. e ≡ record { variables = name ∷ []; steps = Variable 0 ∷ [] }) }
+        ensures value { IfOk result (λ e. (t : Tern) → value_of e (t ∷ []) ≡ t) }
+    {
+        of_steps(alloc, name, &[Step::Variable(0)])
+    }
+
+    /// The expression that is the complement of one variable.
+    ///
+    /// # Errors
+    ///
+    /// Only where memory is refused.
+    pub fn complement(alloc: Global, name: NameId) -> Result<Expr, NoMemory>
+        ensures is { IfOk result (λ e. e ≡ record { variables = name ∷ []; steps = Variable 0 ∷ Not ∷ [] }) }
+        ensures value { IfOk result (λ e. (t : Tern) → value_of e (t ∷ []) ≡ negate_of t) }
+    {
+        of_steps(alloc, name, &[Step::Variable(0), Step::Not])
+    }
+
+    /// The variables, at most 12, in the order in which they first occur.
     pub fn variables(&self) -> &[NameId]
-        ensures { result.now ≡ self.now.variables }
+        ensures is { result.now ≡ self.now.variables }
+        ensures few { length self.now.variables ≤ 12 }
     {
         self.variables.as_slice()
     }
@@ -80,4 +108,13 @@ impl Expr {
     {
         (self.table[place / 64] >> (place % 64)) & 1 == 1
     }
+}
+
+/// The expression with these steps over one variable.
+fn of_steps(alloc: Global, name: NameId, steps: &[Step]) -> Result<Expr, NoMemory>
+    ensures { IfOk result (λ e. e ≡ record { variables = name ∷ []; steps = steps.now }) }
+{
+    let variables = Vec::from_slice(alloc, &[name])?;
+    let steps = Vec::from_slice(alloc, steps)?;
+    Expr::new(alloc, variables, steps)
 }

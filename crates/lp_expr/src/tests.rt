@@ -78,6 +78,19 @@ fn takes_missing_operands_as_0(rt: HostRuntime) -> Result<(), Fail> {
 }
 
 #[test]
+fn takes_one_variable_or_its_complement(rt: HostRuntime) -> Result<(), Fail> {
+    let same = Expr::variable(rt.alloc(), NameId(7))?;
+    let inverted = Expr::complement(rt.alloc(), NameId(7))?;
+    assert_eq!(rt; same.variables(), [NameId(7)].as_slice());
+    assert_eq!(rt; inverted.variables(), [NameId(7)].as_slice());
+    for (v, want) in [(ZERO, ONE), (ONE, ZERO), (X, X)] {
+        assert_eq!(rt; value_of(&rt, &same, &[v]), v);
+        assert_eq!(rt; value_of(&rt, &inverted, &[v]), want);
+    }
+    Ok(())
+}
+
+#[test]
 fn reads_the_second_word(rt: HostRuntime) -> Result<(), Fail> {
     let steps = [Step::Variable(6), Step::Variable(5), Step::And];
     let e = expr_of(&rt, rt.alloc(), 7, &steps)?;
