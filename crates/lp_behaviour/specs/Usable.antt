@@ -21,9 +21,9 @@ is_signal cell name = is_some (pin_place cell.pins name) || is_state_name cell.s
 abbrev pub is_pg : Cell → NameId → Bool
 is_pg cell name = is_some (pg_place cell.pgs name)
 
--- a function of at most 12 variables, each of which stands for something
+-- each variable of a function stands for something; that they are at most 12 is so of every expression
 abbrev pub is_function : (NameId → Bool) → Formula → Bool
-is_function stands e = nat_le (length e.variables) 12 && list_all stands e.variables
+is_function stands e = list_all stands e.variables
 
 abbrev pub is_function_if_any : (NameId → Bool) → Option Formula → Bool
 is_function_if_any stands None = true
@@ -75,10 +75,3 @@ pub record IsUsable (cell : Cell) : Type 0 where
   pub pins : IsTrue (list_all (is_usable_pin cell) cell.pins)
   pub state : IsTrue (is_usable_state cell cell.state)
   pub retention : IsTrue (is_function_if_any (is_pg cell) cell.roles.retention)
-
--- each function of a state has at most 12 variables
-pub record HasSmallFunctions (g : StateGroup) : Type 0 where
-  pub next : length g.next.variables ≤ 12
-  pub clock : length g.clock.variables ≤ 12
-  pub clear : length g.clear.variables ≤ 12
-  pub preset : length g.preset.variables ≤ 12

@@ -3,7 +3,6 @@ ghost use Rattle.lp_tern.specs.declared.tern.Tern.TheVariants.{X};
 ghost use Rattle.lp_expr.specs.Formula.{value_of};
 ghost use Rattle.lp_behaviour.specs.Signals.{level_at, signal_value};
 ghost use Rattle.lp_behaviour.specs.Functions.{function_value, output_value, power_down_of, variable_values};
-ghost use Rattle.lp_behaviour.specs.Usable.{IsUsable};
 
 use crate::signal::{place_of_pg, place_of_pin, value_in_state};
 use lp_expr::{Expr, value};
@@ -20,7 +19,6 @@ const VARIABLES: usize = 12;
 ///
 /// Takes no memory. A pin without a function gives X, and so does a place without a pin.
 pub fn cell_output(cell: &Cell, pin: usize, pins: &[Tern], state: Tern) -> Tern
-    requires usable { IsUsable cell.now }
     requires values { length pins.now ≡ length cell.now.pins }
     ensures { result ≡ output_value cell.now pin pins.now state }
 {
@@ -38,7 +36,6 @@ pub fn cell_output(cell: &Cell, pin: usize, pins: &[Tern], state: Tern) -> Tern
 ///
 /// Takes no memory. Each level is replaced by itself, also where two pins have one supply.
 pub fn power_down_value(cell: &Cell, e: &Expr, levels: &[Tern]) -> Tern
-    requires few { length e.now.variables ≤ 12 }
     requires values { length levels.now ≡ length cell.now.pgs }
     ensures { result ≡ power_down_of cell.now levels.now e.now }
 {
@@ -73,7 +70,6 @@ fn level_of_name(cell: &Cell, levels: &[Tern], name: NameId) -> Tern
 
 /// The value of a function of a cell's pins and its state.
 pub(crate) fn evaluate(cell: &Cell, e: &Expr, pins: &[Tern], state: Tern) -> Tern
-    requires few { length e.now.variables ≤ 12 }
     requires values { length pins.now ≡ length cell.now.pins }
     ensures { result ≡ function_value cell.now pins.now state e.now }
 {
@@ -86,7 +82,6 @@ pub(crate) fn evaluate(cell: &Cell, e: &Expr, pins: &[Tern], state: Tern) -> Ter
 
 /// The value of a function where the state is unknown.
 fn evaluate_unknown(cell: &Cell, e: &Expr, pins: &[Tern]) -> Tern
-    requires few { length e.now.variables ≤ 12 }
     requires values { length pins.now ≡ length cell.now.pins }
     ensures { result ≡ function_value cell.now pins.now X e.now }
 {
@@ -99,7 +94,6 @@ fn evaluate_unknown(cell: &Cell, e: &Expr, pins: &[Tern]) -> Tern
 
 /// The value of a function where the state is a bit.
 fn evaluate_at(cell: &Cell, e: &Expr, pins: &[Tern], bit: bool) -> Tern
-    requires few { length e.now.variables ≤ 12 }
     requires values { length pins.now ≡ length cell.now.pins }
     ensures { result ≡ value_of e.now (variable_values cell.now pins.now bit e.now) }
 {

@@ -2,7 +2,6 @@ ghost use Rattle.std.specs.Prelude.{◌≡◌, ◌≤◌, length};
 ghost use Rattle.lp_behaviour.specs.Registers.{forced_of, group_next, loaded_by, next_value};
 ghost use Rattle.lp_behaviour.specs.Functions.{function_value};
 ghost use Rattle.lp_tern.specs.Values.{choose_of};
-ghost use Rattle.lp_behaviour.specs.Usable.{IsUsable, HasSmallFunctions};
 
 use crate::function::evaluate;
 use lp_model::{Cell, StateGroup, StateKind};
@@ -13,7 +12,6 @@ use lp_tern::{Tern, choose, rise};
 ///
 /// Takes no memory. A cell without state gives X.
 pub fn state_next(cell: &Cell, last: &[Tern], now: &[Tern], q: Tern) -> Tern
-    requires usable { IsUsable cell.now }
     requires last { length last.now ≡ length cell.now.pins }
     requires now { length now.now ≡ length cell.now.pins }
     ensures { result ≡ next_value cell.now last.now now.now q }
@@ -26,7 +24,6 @@ pub fn state_next(cell: &Cell, last: &[Tern], now: &[Tern], q: Tern) -> Tern
 
 /// The next state by a state group.
 fn next_of_group(cell: &Cell, group: &StateGroup, last: &[Tern], now: &[Tern], q: Tern) -> Tern
-    requires small { HasSmallFunctions group.now }
     requires last { length last.now ≡ length cell.now.pins }
     requires now { length now.now ≡ length cell.now.pins }
     ensures { result ≡ group_next cell.now group.now last.now now.now q }
@@ -39,7 +36,6 @@ fn next_of_group(cell: &Cell, group: &StateGroup, last: &[Tern], now: &[Tern], q
 
 /// What the data makes of the state.
 fn load(cell: &Cell, group: &StateGroup, last: &[Tern], now: &[Tern], q: Tern) -> Tern
-    requires small { HasSmallFunctions group.now }
     requires last { length last.now ≡ length cell.now.pins }
     requires now { length now.now ≡ length cell.now.pins }
     ensures { result ≡ loaded_by group.now.kind cell.now group.now last.now now.now q }
@@ -56,7 +52,6 @@ fn load(cell: &Cell, group: &StateGroup, last: &[Tern], now: &[Tern], q: Tern) -
 
 /// The data of these pins where the control is 1, `q` where it is 0.
 fn load_if(control: Tern, cell: &Cell, group: &StateGroup, pins: &[Tern], q: Tern) -> Tern
-    requires few { length group.now.next.variables ≤ 12 }
     requires values { length pins.now ≡ length cell.now.pins }
     ensures { result ≡ choose_of control (function_value cell.now pins.now q group.now.next) q }
 {

@@ -8,8 +8,8 @@ use lp_model::{Cell, PgPin, Pin, StateGroup};
 use lp_text::NameId;
 
 /// Whether a cell keeps what every cell that may be used does: at most 8 power and ground pins, at most
-/// 240 signal pins, functions of at most 12 variables, each of which stands for a pin or the state, and
-/// related pins that it has.
+/// 240 signal pins, functions whose variables all stand for a pin or the state, and related pins that it
+/// has.
 pub fn is_usable(cell: &Cell) -> bool
     ensures { IsTrue result ↔ usable.IsUsable cell.now }
 {
@@ -90,7 +90,7 @@ fn is_usable_state(cell: &Cell, state: &Option<StateGroup>) -> bool
     }
 }
 
-/// Whether a function of signals, if there is one, has few variables that all stand for something.
+/// Whether the variables of a function of signals, if there is one, all stand for something.
 fn is_function_of_signals(cell: &Cell, e: &Option<Expr>) -> bool
     ensures { result ≡ usable.is_function_if_any (usable.is_signal cell.now) e.now }
 {
@@ -110,20 +110,18 @@ fn is_function_of_pgs(cell: &Cell, e: &Option<Expr>) -> bool
     }
 }
 
-/// Whether a function has few variables, all of which are pins or the state.
+/// Whether the variables of a function are pins or the state.
 fn is_signal_function(cell: &Cell, e: &Expr) -> bool
     ensures { result ≡ usable.is_function (usable.is_signal cell.now) e.now }
 {
-    let names = e.variables();
-    names.len() <= 12 && are_signals(cell, names)
+    are_signals(cell, e.variables())
 }
 
-/// Whether a function has few variables, all of which are power or ground pins.
+/// Whether the variables of a function are power or ground pins.
 fn is_pg_function(cell: &Cell, e: &Expr) -> bool
     ensures { result ≡ usable.is_function (usable.is_pg cell.now) e.now }
 {
-    let names = e.variables();
-    names.len() <= 12 && are_pgs(cell, names)
+    are_pgs(cell, e.variables())
 }
 
 /// Whether each name is that of a pin, of the state or of its inverse.
