@@ -1,0 +1,4 @@
+pub mod Alike
+pub mod Carried
+pub mod Cells
+pub mod Designs
