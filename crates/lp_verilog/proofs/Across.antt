@@ -15,12 +15,12 @@ use Rattle.lp_model.specs.declared.netlist.Instance.{Instance}
 use Rattle.lp_model.specs.declared.netlist.Assign.{Assign}
 use Rattle.lp_model.specs.declared.netlist.Module.{Module}
 use Rattle.lp_model.specs.NetlistView as seen
-use Rattle.lp_verilog.specs.declared.token.Token.TheVariants as tokens
-use Rattle.lp_verilog.specs.declared.stop.Off.TheVariants as offs
-use Rattle.lp_verilog.specs.declared.reader.Reader.{Reader}
-use Rattle.lp_verilog.specs.Cutting as cutting
-use Rattle.lp_verilog.specs.Verdicts.{Verdict, Goes, Stops}
-use Rattle.lp_verilog.specs.Machine.{start, step, accepts}
+use Rattle.lp_verilog_tokens.specs.declared.token.Token.TheVariants as tokens
+use Rattle.lp_verilog_draft.specs.declared.stop.Off.TheVariants as offs
+use Rattle.lp_verilog_grammar.specs.declared.reader.Reader.{Reader}
+use Rattle.lp_verilog_tokens.specs.Cutting as cutting
+use Rattle.lp_verilog_draft.specs.Verdicts.{Verdict, Goes, Stops}
+use Rattle.lp_verilog_grammar.specs.Machine.{start, step, accepts}
 use Rattle.lp_verilog.specs.Reading.{Outcome, Whole, Left, ending, behind, piece_bytes}
 use Rattle.lp_verilog.specs.Denotes.{numbered, is_known, Follows, Leads}
 use Rattle.lp_verilog.proofs.Renaming.{tk, bt, bts, pt, nt, cn, cs, it, sg, md, rd, off, vd}

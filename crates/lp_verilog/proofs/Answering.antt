@@ -5,11 +5,11 @@ use Rattle.lp_model.specs.declared.netlist.Module.{Module}
 use Rattle.lp_model.specs.NetlistView.{module_view}
 use Rattle.lp_model.specs.declared.fault.refusal.Refusal.{Refusal}
 use Rattle.lp_model.specs.declared.fault.refusal.Refusal.TheVariants as refusals
-use Rattle.lp_verilog.specs.declared.stop.Off.{Off}
+use Rattle.lp_verilog_draft.specs.declared.stop.Off.{Off}
 use Rattle.lp_verilog.specs.declared.reading.Halt.{Halt}
 use Rattle.lp_verilog.specs.declared.reading.Halt.TheVariants as halts
 use Rattle.lp_verilog.specs.Answers.{Halts}
-use Rattle.lp_verilog.specs.Machine.{start}
+use Rattle.lp_verilog_grammar.specs.Machine.{start}
 use Rattle.lp_verilog.specs.Reading.{Reading, Outcome, Left, read_rest}
 use Rattle.lp_verilog.specs.Denotes.{LeadsTo, Denotes}
 use Rattle.lp_verilog.specs.Refusing.{fault_of, IsFault, Refuses, HasNone}

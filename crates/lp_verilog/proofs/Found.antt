@@ -3,11 +3,11 @@ use Rattle.std.proofs.Common.{◌≡◌, ℕ, ◌+◌, ◌-◌, ◌<◌, ◌≤�
 use Rattle.std.specs.Prelude.{unwrap_or, max, is_some, if◌then◌else◌}
 use Rattle.std.proofs.lemmas.List.{append-nil, length-drop}
 use Rattle.lp_text.specs.Texts.{Grown, place_of, has_text, with_text, place_of-append_left, place_of-push, is_some-place_of}
-use Rattle.lp_verilog.specs.declared.token.Token.TheVariants as tokens
-use Rattle.lp_verilog.specs.declared.reader.Reader.{Reader}
-use Rattle.lp_verilog.specs.Cutting.{Lexeme, Named, Plain, Piece, piece_of}
-use Rattle.lp_verilog.specs.Verdicts.{Verdict, Goes, Stops}
-use Rattle.lp_verilog.specs.Machine.{start, step}
+use Rattle.lp_verilog_tokens.specs.declared.token.Token.TheVariants as tokens
+use Rattle.lp_verilog_grammar.specs.declared.reader.Reader.{Reader}
+use Rattle.lp_verilog_tokens.specs.Cutting.{Lexeme, Named, Plain, Piece, piece_of}
+use Rattle.lp_verilog_draft.specs.Verdicts.{Verdict, Goes, Stops}
+use Rattle.lp_verilog_grammar.specs.Machine.{start, step}
 use Rattle.lp_verilog.specs.Reading.{Outcome, Left, behind, piece_bytes, turned, stepped, read_rest, token_in, names_with}
 use Rattle.lp_verilog.specs.Denotes.{numbered, is_known, Follows, Leads, LeadsTo}
 

@@ -5,11 +5,11 @@ use Rattle.std.proofs.lemmas.List.{length-append}
 use Rattle.lp_text.specs.Texts.{Grown, distinct, distinct-append_left, place_of, has_text, has_text-append, place_of-append_left}
 use Rattle.lp_model.specs.declared.netlist.Module.{Module}
 use Rattle.lp_model.specs.NetlistView.{module_view}
-use Rattle.lp_verilog.specs.declared.token.Token.TheVariants as tokens
-use Rattle.lp_verilog.specs.declared.reader.Reader.{Reader}
-use Rattle.lp_verilog.specs.Cutting.{Lexeme, Named, Plain, Piece}
-use Rattle.lp_verilog.specs.Verdicts.{Verdict, Goes, Stops}
-use Rattle.lp_verilog.specs.Machine.{start, step}
+use Rattle.lp_verilog_tokens.specs.declared.token.Token.TheVariants as tokens
+use Rattle.lp_verilog_grammar.specs.declared.reader.Reader.{Reader}
+use Rattle.lp_verilog_tokens.specs.Cutting.{Lexeme, Named, Plain, Piece}
+use Rattle.lp_verilog_draft.specs.Verdicts.{Verdict, Goes, Stops}
+use Rattle.lp_verilog_grammar.specs.Machine.{start, step}
 use Rattle.lp_verilog.specs.Reading.{Outcome, Whole, behind, piece_bytes}
 use Rattle.lp_verilog.specs.Denotes.{numbered, is_known, Follows, Leads, LeadsTo, Denotes}
 use Rattle.lp_verilog.specs.Reads.{Reads}

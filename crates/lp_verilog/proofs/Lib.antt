@@ -1,7 +1,3 @@
-pub mod Visible
-pub mod Steps
-pub mod Tables
-pub mod Words
 pub mod Found
 pub mod Loop
 pub mod Answering

@@ -2,10 +2,10 @@
 use Rattle.std.proofs.Common.{◌≡◌, ℕ, suc, ◌+◌, ◌<◌, Bool, false, List, [], ◌∷◌, length, drop, get_or, Some, None, Result, Ok, Err, refl, sym, ap, ◌∙◌, subst, arith}
 use Rattle.std.proofs.Math.Seq.{drop-cons}
 use Rattle.lp_model.specs.declared.netlist.Module.{Module}
-use Rattle.lp_verilog.specs.declared.reader.Reader.{Reader}
+use Rattle.lp_verilog_grammar.specs.declared.reader.Reader.{Reader}
 use Rattle.lp_verilog.specs.declared.reading.Halt.{Halt}
 use Rattle.lp_verilog.specs.declared.reading.Halt.TheVariants as halts
-use Rattle.lp_verilog.specs.Cutting.{Piece, piece_of}
+use Rattle.lp_verilog_tokens.specs.Cutting.{Piece, piece_of}
 use Rattle.lp_verilog.specs.Reading.{Reading, ending, ended, turned, read_rest}
 use Rattle.lp_verilog.specs.Answers.{Halts, Finishes, IsReading}
 

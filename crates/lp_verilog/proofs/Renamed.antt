@@ -7,25 +7,25 @@ use Rattle.std.proofs.lemmas.List.{map-append}
 use Rattle.lp_model.specs.declared.bits.Bit.{Bit}
 use Rattle.lp_model.specs.declared.netlist.Connection.{Connection}
 use Rattle.lp_model.specs.declared.netlist.Connections.TheVariants.{Named, Ordered}
-use Rattle.lp_verilog.specs.declared.token.Token.{Token}
-use Rattle.lp_verilog.specs.declared.token.Token.TheVariants as tokens
-use Rattle.lp_verilog.specs.declared.token.Keyword.TheVariants as keywords
-use Rattle.lp_verilog.specs.declared.symbol.Symbol.{Symbol}
-use Rattle.lp_verilog.specs.declared.symbol.Symbol.TheVariants as symbols
-use Rattle.lp_verilog.specs.declared.symbol.Action.{Action}
-use Rattle.lp_verilog.specs.declared.symbol.Action.TheVariants as actions
-use Rattle.lp_verilog.specs.declared.stop.Off.TheVariants as offs
-use Rattle.lp_verilog.specs.declared.value.Side.{Side}
-use Rattle.lp_verilog.specs.declared.value.Side.TheVariants as sides
-use Rattle.lp_verilog.specs.declared.value.Value.{Value}
-use Rattle.lp_verilog.specs.declared.declaring.Form.{Form}
-use Rattle.lp_verilog.specs.declared.declaring.Form.TheVariants as forms
-use Rattle.lp_verilog.specs.declared.reader.Reader.{Reader}
-use Rattle.lp_verilog.specs.Grammar.{Production, production}
-use Rattle.lp_verilog.specs.Verdicts.{Verdict, Goes, Stops, and_then}
-use Rattle.lp_verilog.specs.Scopes.{Entries, add_new, found, listed, declare, use_name, instance_entry, lacking_of}
-use Rattle.lp_verilog.specs.Steps
-use Rattle.lp_verilog.specs.Machine.{with_value, scoped, valued, begin_module, list_port, give_direction, declare_name, finish_module, left_bound, right_bound, give_target, begun_instance, begin_instance, end_instance, end_ordered, end_named, give_port, with_side, end_assign, with_subject, start_value, give_index, give_second, perform, refusal, is_bracket, settled, settle, produced, take_by, take_token, step}
+use Rattle.lp_verilog_tokens.specs.declared.token.Token.{Token}
+use Rattle.lp_verilog_tokens.specs.declared.token.Token.TheVariants as tokens
+use Rattle.lp_verilog_tokens.specs.declared.token.Keyword.TheVariants as keywords
+use Rattle.lp_verilog_grammar.specs.declared.symbol.Symbol.{Symbol}
+use Rattle.lp_verilog_grammar.specs.declared.symbol.Symbol.TheVariants as symbols
+use Rattle.lp_verilog_grammar.specs.declared.symbol.Action.{Action}
+use Rattle.lp_verilog_grammar.specs.declared.symbol.Action.TheVariants as actions
+use Rattle.lp_verilog_draft.specs.declared.stop.Off.TheVariants as offs
+use Rattle.lp_verilog_draft.specs.declared.value.Side.{Side}
+use Rattle.lp_verilog_draft.specs.declared.value.Side.TheVariants as sides
+use Rattle.lp_verilog_draft.specs.declared.value.Value.{Value}
+use Rattle.lp_verilog_draft.specs.declared.declaring.Form.{Form}
+use Rattle.lp_verilog_draft.specs.declared.declaring.Form.TheVariants as forms
+use Rattle.lp_verilog_grammar.specs.declared.reader.Reader.{Reader}
+use Rattle.lp_verilog_grammar.specs.Grammar.{Production, production}
+use Rattle.lp_verilog_draft.specs.Verdicts.{Verdict, Goes, Stops, and_then}
+use Rattle.lp_verilog_draft.specs.Scopes.{Entries, add_new, found, listed, declare, use_name, instance_entry, lacking_of}
+use Rattle.lp_verilog_draft.specs.Steps
+use Rattle.lp_verilog_grammar.specs.Machine.{with_value, scoped, valued, begin_module, list_port, give_direction, declare_name, finish_module, left_bound, right_bound, give_target, begun_instance, begin_instance, end_instance, end_ordered, end_named, give_port, with_side, end_assign, with_subject, start_value, give_index, give_second, perform, refusal, is_bracket, settled, settle, produced, take_by, take_token, step}
 use Rattle.lp_verilog.proofs.Renaming.{nm, tk, bts, es, cn, cs, it, sg, md, vl, jt, dr, rd, off, vd, select_step, index_step, one_step, whole_step, many_step, constant_step, lacking_same, ports_same, nets_same, any_same, insert_key_same, add_new_same, declare_same, use_same, range_same}
 
 production_same : (ρ : ℕ → ℕ) (s : Symbol) (t : Token) → production s (tk ρ t) ≡ production s t

@@ -21,26 +21,26 @@ use Rattle.lp_model.specs.declared.netlist.Assign.{Assign}
 use Rattle.lp_model.specs.declared.netlist.Module.{Module}
 use Rattle.lp_model.specs.declared.bits.Bit.{Bit}
 use Rattle.lp_model.specs.declared.bits.Bit.TheVariants as bits
-use Rattle.lp_verilog.specs.declared.token.Token.{Token}
-use Rattle.lp_verilog.specs.declared.token.Token.TheVariants as tokens
-use Rattle.lp_verilog.specs.declared.stop.Off.{Off}
-use Rattle.lp_verilog.specs.declared.stop.Off.TheVariants as offs
-use Rattle.lp_verilog.specs.declared.value.Side.{Side}
-use Rattle.lp_verilog.specs.declared.value.Side.TheVariants as sides
-use Rattle.lp_verilog.specs.declared.value.Value.{Value}
-use Rattle.lp_verilog.specs.declared.scope.Kind.{Kind}
-use Rattle.lp_verilog.specs.declared.scope.Kind.TheVariants as kinds
-use Rattle.lp_verilog.specs.declared.scope.Entry.{Entry}
-use Rattle.lp_verilog.specs.declared.declaring.Form.{Form}
-use Rattle.lp_verilog.specs.declared.declaring.Form.TheVariants as forms
-use Rattle.lp_verilog.specs.declared.declaring.Declaring.{Declaring}
-use Rattle.lp_verilog.specs.declared.draft.Joint.{Joint}
-use Rattle.lp_verilog.specs.declared.draft.Draft.{Draft}
-use Rattle.lp_verilog.specs.declared.reader.Reader.{Reader}
-use Rattle.lp_verilog.specs.Verdicts.{Verdict, Goes, Stops}
-use Rattle.lp_verilog.specs.Scopes.{Entries, lacking_of, ports_of, nets_of, port_of, net_of, port_with, net_with, with_some, lacks_direction, put, found, add_new, headed, wire, is_port, agrees, give_direction, give_wire, declare_by, use_new, use_instance, settle, use_old, use_by, use_name, entry_range, range_in}
-use Rattle.lp_verilog.specs.Values.{is_in, goes_along, between, indices, select, whole, digit, constant_bits}
-use Rattle.lp_verilog.specs.Steps
+use Rattle.lp_verilog_tokens.specs.declared.token.Token.{Token}
+use Rattle.lp_verilog_tokens.specs.declared.token.Token.TheVariants as tokens
+use Rattle.lp_verilog_draft.specs.declared.stop.Off.{Off}
+use Rattle.lp_verilog_draft.specs.declared.stop.Off.TheVariants as offs
+use Rattle.lp_verilog_draft.specs.declared.value.Side.{Side}
+use Rattle.lp_verilog_draft.specs.declared.value.Side.TheVariants as sides
+use Rattle.lp_verilog_draft.specs.declared.value.Value.{Value}
+use Rattle.lp_verilog_draft.specs.declared.scope.Kind.{Kind}
+use Rattle.lp_verilog_draft.specs.declared.scope.Kind.TheVariants as kinds
+use Rattle.lp_verilog_draft.specs.declared.scope.Entry.{Entry}
+use Rattle.lp_verilog_draft.specs.declared.declaring.Form.{Form}
+use Rattle.lp_verilog_draft.specs.declared.declaring.Form.TheVariants as forms
+use Rattle.lp_verilog_draft.specs.declared.declaring.Declaring.{Declaring}
+use Rattle.lp_verilog_draft.specs.declared.draft.Joint.{Joint}
+use Rattle.lp_verilog_draft.specs.declared.draft.Draft.{Draft}
+use Rattle.lp_verilog_grammar.specs.declared.reader.Reader.{Reader}
+use Rattle.lp_verilog_draft.specs.Verdicts.{Verdict, Goes, Stops}
+use Rattle.lp_verilog_draft.specs.Scopes.{Entries, lacking_of, ports_of, nets_of, port_of, net_of, port_with, net_with, with_some, lacks_direction, put, found, add_new, headed, wire, is_port, agrees, give_direction, give_wire, declare_by, use_new, use_instance, settle, use_old, use_by, use_name, entry_range, range_in}
+use Rattle.lp_verilog_draft.specs.Values.{is_in, goes_along, between, indices, select, whole, digit, constant_bits}
+use Rattle.lp_verilog_draft.specs.Steps
 
 module _ (ρ : ℕ → ℕ) where
   abbrev pub nm : NameId → NameId

@@ -6,12 +6,12 @@ use Rattle.lp_text.specs.Texts.{has_text, has_text-append, distinct}
 use Rattle.lp_model.specs.declared.netlist.Direction.TheVariants as directions
 use Rattle.lp_model.specs.declared.netlist.Module.{Module}
 use Rattle.lp_model.specs.NetlistView.{ModuleView, module_view}
-use Rattle.lp_verilog.specs.declared.symbol.Symbol.TheVariants as symbols
-use Rattle.lp_verilog.specs.declared.stop.Off.{Off}
-use Rattle.lp_verilog.specs.declared.value.Side.TheVariants as sides
-use Rattle.lp_verilog.specs.declared.declaring.Form.TheVariants as forms
-use Rattle.lp_verilog.specs.declared.reader.Reader.{Reader}
-use Rattle.lp_verilog.specs.Machine.{start}
+use Rattle.lp_verilog_grammar.specs.declared.symbol.Symbol.TheVariants as symbols
+use Rattle.lp_verilog_draft.specs.declared.stop.Off.{Off}
+use Rattle.lp_verilog_draft.specs.declared.value.Side.TheVariants as sides
+use Rattle.lp_verilog_draft.specs.declared.declaring.Form.TheVariants as forms
+use Rattle.lp_verilog_grammar.specs.declared.reader.Reader.{Reader}
+use Rattle.lp_verilog_grammar.specs.Machine.{start}
 use Rattle.lp_verilog.specs.Reading.{Outcome, Whole, Left}
 use Rattle.lp_verilog.specs.Denotes.{Leads, LeadsTo}
 use Rattle.lp_verilog.specs.Reads.{Reads}

@@ -1,11 +1,11 @@
 -- What the functions that read answer, next to the reading by the grammar.
 use Rattle.std.specs.Prelude.{◌≡◌, ℕ, List, Result, Ok, Err}
 use Rattle.lp_model.specs.declared.netlist.Module.{Module}
-use Rattle.lp_verilog.specs.declared.reader.Reader.{Reader}
+use Rattle.lp_verilog_grammar.specs.declared.reader.Reader.{Reader}
 use Rattle.lp_verilog.specs.declared.reading.Halt.{Halt}
 use Rattle.lp_verilog.specs.declared.reading.Halt.TheVariants as halts
 use Rattle.lp_verilog.specs.Reading.{Reading, Outcome, Whole, Left, shown}
-use Rattle.lp_verilog.specs.Verdicts.{Verdict, Goes, Stops}
+use Rattle.lp_verilog_draft.specs.Verdicts.{Verdict, Goes, Stops}
 
 -- a token is taken, or it is the first one that cannot stand where it does
 abbrev pub Takes : {A : Type 0} → Result A Halt → Reader → ℕ → List ℕ → Verdict Reader → Type 0

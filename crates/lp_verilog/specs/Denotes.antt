@@ -3,12 +3,12 @@
 use Rattle.std.specs.Prelude.{◌≡◌, ℕ, ◌+◌, ◌-◌, Bool, true, false, List, [], ◌∷◌, length, unwrap_or, Some, None}
 use Rattle.lp_text.specs.Texts.{place_of, has_text}
 use Rattle.lp_model.specs.declared.netlist.Module.{Module}
-use Rattle.lp_verilog.specs.declared.token.Token.{Token}
-use Rattle.lp_verilog.specs.declared.token.Token.TheVariants as tokens
-use Rattle.lp_verilog.specs.declared.reader.Reader.{Reader}
-use Rattle.lp_verilog.specs.Cutting.{Lexeme, Named, Plain, Piece, piece_of}
-use Rattle.lp_verilog.specs.Verdicts.{Verdict, Goes, Stops}
-use Rattle.lp_verilog.specs.Machine.{start, step}
+use Rattle.lp_verilog_tokens.specs.declared.token.Token.{Token}
+use Rattle.lp_verilog_tokens.specs.declared.token.Token.TheVariants as tokens
+use Rattle.lp_verilog_grammar.specs.declared.reader.Reader.{Reader}
+use Rattle.lp_verilog_tokens.specs.Cutting.{Lexeme, Named, Plain, Piece, piece_of}
+use Rattle.lp_verilog_draft.specs.Verdicts.{Verdict, Goes, Stops}
+use Rattle.lp_verilog_grammar.specs.Machine.{start, step}
 use Rattle.lp_verilog.specs.Reading.{Outcome, Whole, Left, ending, behind, piece_bytes, unnamed}
 
 -- a token whose name is numbered by a table

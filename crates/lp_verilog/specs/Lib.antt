@@ -1,14 +1,3 @@
-pub mod Lexical
-pub mod Reserved
-pub mod Constants
-pub mod Cutting
-pub mod Grammar
-pub mod View
-pub mod Verdicts
-pub mod Scopes
-pub mod Values
-pub mod Steps
-pub mod Machine
 pub mod Reading
 pub mod Answers
 pub mod Denotes

@@ -3,15 +3,15 @@ use Rattle.std.specs.Prelude.{ℕ, ◌+◌, ◌-◌, Bool, false, List, [], ◌�
 use Rattle.std.specs.List.{list_all}
 use Rattle.lp_text.specs.Texts.{place_of, with_text}
 use Rattle.lp_model.specs.declared.netlist.Module.{Module}
-use Rattle.lp_verilog.specs.declared.token.Token.{Token}
-use Rattle.lp_verilog.specs.declared.token.Token.TheVariants as tokens
-use Rattle.lp_verilog.specs.declared.stop.Off.{Off}
-use Rattle.lp_verilog.specs.declared.stop.Off.TheVariants as offs
-use Rattle.lp_verilog.specs.declared.reader.Reader.{Reader}
-use Rattle.lp_verilog.specs.Lexical.{is_visible}
-use Rattle.lp_verilog.specs.Cutting.{Lexeme, Named, Plain, Piece, piece_of}
-use Rattle.lp_verilog.specs.Verdicts.{Verdict, Goes, Stops}
-use Rattle.lp_verilog.specs.Machine.{step, accepts}
+use Rattle.lp_verilog_tokens.specs.declared.token.Token.{Token}
+use Rattle.lp_verilog_tokens.specs.declared.token.Token.TheVariants as tokens
+use Rattle.lp_verilog_draft.specs.declared.stop.Off.{Off}
+use Rattle.lp_verilog_draft.specs.declared.stop.Off.TheVariants as offs
+use Rattle.lp_verilog_grammar.specs.declared.reader.Reader.{Reader}
+use Rattle.lp_verilog_tokens.specs.Lexical.{is_visible}
+use Rattle.lp_verilog_tokens.specs.Cutting.{Lexeme, Named, Plain, Piece, piece_of}
+use Rattle.lp_verilog_draft.specs.Verdicts.{Verdict, Goes, Stops}
+use Rattle.lp_verilog_grammar.specs.Machine.{step, accepts}
 
 -- the number of a name in a table; a new name comes last
 abbrev pub number_in : List (List ℕ) → List ℕ → ℕ

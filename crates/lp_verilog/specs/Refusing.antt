@@ -10,8 +10,8 @@ use Rattle.lp_model.specs.declared.fault.refusal.Refusal.TheVariants as refusals
 use Rattle.lp_model.specs.Refusals.{netlist_refusal}
 use Rattle.lp_model.specs.NetlistView.{ModuleView}
 use Rattle.lp_verilog.specs.Reads.{Reads}
-use Rattle.lp_verilog.specs.declared.stop.Off.{Off}
-use Rattle.lp_verilog.specs.declared.stop.Off.TheVariants as offs
+use Rattle.lp_verilog_draft.specs.declared.stop.Off.{Off}
+use Rattle.lp_verilog_draft.specs.declared.stop.Off.TheVariants as offs
 use Rattle.lp_verilog.specs.Reading.{Left}
 use Rattle.lp_verilog.specs.Denotes.{LeadsTo}
 

@@ -1,18 +1,9 @@
-ghost use Rattle.std.specs.Prelude.{◌≡◌, IsTrue};
+ghost use Rattle.std.specs.Prelude.{◌≡◌};
 ghost use Rattle.std.specs.List.{list_all};
-ghost use Rattle.lp_verilog.specs.Lexical.{is_visible};
+ghost use Rattle.lp_verilog_tokens.specs.Lexical.{is_visible};
 ghost use Rattle.lp_verilog.specs.Reading.{shown};
 
-use crate::bytes::is_visible;
-use std::str;
-
-/// Visible bytes as text.
-pub(crate) fn text_of(bytes: &[u8]) -> &str
-    requires { IsTrue (list_all is_visible bytes.now) }
-    ensures { result.now ≡ bytes.now }
-{
-    str::from_utf8(bytes).unwrap()
-}
+use lp_verilog_tokens::{is_visible, text_of};
 
 fn are_visible(bytes: &[u8]) -> bool
     ensures { result ≡ list_all is_visible bytes.now }

@@ -1,10 +1,10 @@
 ghost use Rattle.std.specs.Prelude.{◌≡◌, ◌+◌, ◌<◌, ◌≤◌, length, IfOk, OnOk};
 ghost use Rattle.lp_text.specs.Texts.{Grown, with_text};
 ghost use Rattle.lp_verilog.specs.Reading.{number_in, token_in, names_with, unnamed};
-ghost use Rattle.lp_verilog.specs.View.{lexeme_view};
+ghost use Rattle.lp_verilog_tokens.specs.View.{lexeme_view};
 
-use crate::token::{Lexeme, Token};
 use lp_text::{NameId, Names, NamesFault, NoMemory};
+use lp_verilog_tokens::{Lexeme, Token};
 
 /// The number of a name, where the table has room for one more.
 pub(crate) fn intern(names: &mut Names, name: &str) -> Result<NameId, NoMemory>

@@ -8,9 +8,9 @@ ghost use Rattle.lp_verilog.specs.Refusing.{IsFault, Refuses, HasNone, fault_of}
 
 use crate::naming::intern;
 use crate::reading::{Halt, read_modules};
-use crate::stop::Off;
 use lp_model::{Netlist, NetlistFault, NetlistLimit, Refusal};
 use lp_text::{LIMIT, Names, Place};
+use lp_verilog_draft::Off;
 use std::alloc::Global;
 
 /// The place of a byte, or of the end.

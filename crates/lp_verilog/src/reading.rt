@@ -1,19 +1,18 @@
 ghost use Rattle.std.specs.Prelude.{◌≡◌, ◌+◌, ◌<◌, ◌≤◌, ℕ, List, Some, true, length, take, drop, IfOk};
 ghost use Rattle.lp_text.specs.Texts.{Grown};
 ghost use Rattle.lp_verilog.specs.Reading.{Reading, read_rest, turned, ending};
-ghost use Rattle.lp_verilog.specs.Machine.{start, step};
+ghost use Rattle.lp_verilog_grammar.specs.Machine.{start, step};
 ghost use Rattle.lp_verilog.specs.Answers.{Takes, GoesOn, Finishes, IsReading};
-ghost use Rattle.lp_verilog.specs.View.{piece_view};
-ghost use Rattle.lp_verilog.specs.declared.reader.Reader.{Reader};
+ghost use Rattle.lp_verilog_tokens.specs.View.{piece_view};
+ghost use Rattle.lp_verilog_grammar.specs.declared.reader.Reader.{Reader};
 
 use crate::ascii::shown;
-use crate::front::piece_of;
 use crate::naming::token_of;
-use crate::reader::Reader;
-use crate::stop::{Off, Stop};
-use crate::token::{Piece, Token};
 use lp_model::Module;
 use lp_text::{Names, NoMemory};
+use lp_verilog_draft::{Off, Stop};
+use lp_verilog_grammar::Reader;
+use lp_verilog_tokens::{Piece, Token, piece_of};
 use sqlite_items::Items;
 use std::alloc::Global;
 

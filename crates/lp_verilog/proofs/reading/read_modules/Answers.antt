@@ -1,7 +1,7 @@
 use Rattle.std.proofs.Common.{ℕ, List, ◌+◌, false, length, drop, sym, ◌∙◌, arith}
-use Rattle.lp_verilog.specs.declared.reader.Reader.{Reader}
+use Rattle.lp_verilog_grammar.specs.declared.reader.Reader.{Reader}
 use Rattle.lp_verilog.specs.Reading.{read_rest}
-use Rattle.lp_verilog.specs.View.{piece_view}
+use Rattle.lp_verilog_tokens.specs.View.{piece_view}
 use Rattle.lp_verilog.proofs.Found.{grown_trans}
 use Rattle.lp_verilog.proofs.Loop.{finished, turn_at, halted}
 use Rattle.lp_verilog.proofs.reading.read_modules.Goals as goal

@@ -1,7 +1,7 @@
 use Rattle.std.proofs.Common.{◌≡◌, ◌+◌, ◌≤◌, true, length, drop}
 use Rattle.lp_text.specs.Texts.{Grown}
 use Rattle.lp_verilog.specs.Reading.{read_rest}
-use Rattle.lp_verilog.specs.Machine.{start}
+use Rattle.lp_verilog_grammar.specs.Machine.{start}
 use Rattle.lp_verilog.proofs.reading.read_modules.Given as goal
 
 abbrev pub invariant-loop-byte : goal.invariant-loop-byte

@@ -1,6 +1,0 @@
-use Rattle.std.proofs.lemmas.Str.{IsUtf8-from_ascii}
-use Rattle.lp_verilog.proofs.Visible.{visible_ascii, passes}
-use Rattle.lp_verilog.proofs.ascii.text_of.Goals as goal
-
-pub unwrap-requires : goal.unwrap-requires
-unwrap-requires c = passes _ _ c.from_utf8.result c.from_utf8.ensures.cases (IsUtf8-from_ascii c.args.bytes.now (visible_ascii c.args.bytes.now c.requires))

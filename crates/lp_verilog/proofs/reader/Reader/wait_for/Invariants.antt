@@ -1,6 +1,0 @@
-use Rattle.std.proofs.Common.{◌≡◌, ◌-◌, drop, length}
-use Rattle.lp_verilog.specs.Machine.{awaiting}
-use Rattle.lp_verilog.proofs.reader.Reader.wait_for.Given as goal
-
-abbrev pub invariant-loop-k : goal.invariant-loop-k
-invariant-loop-k l = l.self ≡ awaiting (drop (length l.symbols - l.k) l.symbols) l.fn.self

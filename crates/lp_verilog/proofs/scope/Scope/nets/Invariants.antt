@@ -1,6 +1,0 @@
-use Rattle.std.proofs.Common.{◌≡◌, ◌++◌, drop}
-use Rattle.lp_verilog.specs.Scopes.{nets_of}
-use Rattle.lp_verilog.proofs.scope.Scope.nets.Given as goal
-
-abbrev pub invariant-loop-i : goal.invariant-loop-i
-invariant-loop-i l = l.nets ++ nets_of (drop l.i l.self) ≡ nets_of l.self

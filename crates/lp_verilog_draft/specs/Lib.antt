@@ -1,0 +1,4 @@
+pub mod Verdicts
+pub mod Scopes
+pub mod Values
+pub mod Steps

@@ -1,0 +1,3 @@
+pub mod Visible
+pub mod Tables
+pub mod Words
