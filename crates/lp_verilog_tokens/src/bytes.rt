@@ -24,7 +24,7 @@ pub(crate) fn is_blank(byte: u8) -> bool
 
 /// A letter or `_`.
 #[inline]
-pub(crate) fn is_lead(byte: u8) -> bool
+pub fn is_lead(byte: u8) -> bool
     ensures { result ≡ is_lead byte }
 {
     LETTERS[byte as usize] == b'a'
@@ -32,7 +32,7 @@ pub(crate) fn is_lead(byte: u8) -> bool
 
 /// A letter, a digit, `_` or `$`.
 #[inline]
-fn is_inner(byte: u8) -> bool
+pub fn is_inner(byte: u8) -> bool
     ensures { result ≡ is_inner byte }
 {
     LETTERS[byte as usize] >= b'0'

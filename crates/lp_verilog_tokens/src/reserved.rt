@@ -159,7 +159,7 @@ fn is_among(word: &[u8], words: &[&[u8]]) -> bool
 }
 
 /// Whether a word is reserved in Verilog (IEEE 1364-2005, annex B).
-pub(crate) fn is_reserved(word: &[u8]) -> bool
+pub fn is_reserved(word: &[u8]) -> bool
     ensures { result ≡ has_text word.now reserved_words }
 {
     match word {

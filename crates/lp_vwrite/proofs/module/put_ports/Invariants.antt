@@ -1,0 +1,8 @@
+use Rattle.std.proofs.Common.{◌≡◌, ◌++◌, drop, map}
+use Rattle.std.specs.List.{flat_map}
+use Rattle.lp_model.specs.NetlistView.{port_view}
+use Rattle.lp_vwrite.specs.Layout.{port_line}
+use Rattle.lp_vwrite.proofs.module.put_ports.Given as goal
+
+abbrev pub invariant-loop-port : goal.invariant-loop-port
+invariant-loop-port l = l.out.items ++ flat_map port_line (map (port_view l.names) (drop l.port-index l.ports)) ≡ l.fn.out.items ++ flat_map port_line (map (port_view l.names) l.ports)

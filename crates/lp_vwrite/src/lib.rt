@@ -1,0 +1,14 @@
+//! The text of a structural netlist (IEEE 1364-2005, the subset that is read), one item a line.
+#![tactic(auto)]
+
+mod bits;
+mod items;
+mod module;
+mod name;
+mod netlist;
+mod vectors;
+
+pub use netlist::write_netlist;
+
+#[cfg(test)]
+mod tests;
