@@ -1,0 +1,7 @@
+pub mod Choice
+pub mod Equality
+pub mod Fits
+pub mod Joins
+pub mod Needs
+pub mod PowerDown
+pub mod Samples

@@ -1,0 +1,7 @@
+//! The supply network of definitions as that of the state table: which sets may be lower than others, and which
+//! voltages they may have together.
+#![tactic(auto)]
+
+mod laws;
+
+pub use laws::lower_by_the_table;
