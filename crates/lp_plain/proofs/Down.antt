@@ -1,6 +1,6 @@
 -- A power-down function that follows the supply to which all pins are joined is 0 exactly where that supply is on.
 use Rattle.std.proofs.Common.{◌≡◌, ℕ, zero, suc, Bool, true, false, not, ◌&&◌, cond, List, [], ◌∷◌, map, Option, Some, None, refl, sym, ◌∙◌, ap, subst}
-use Rattle.std.specs.Prelude.{is_some, bytes_eq, IsTrue, slice_get, filter}
+use Rattle.std.specs.Prelude.{is_some, bytes_eq, slice_get, filter}
 use Rattle.std.specs.List.{list_all, zip}
 use Rattle.std.proofs.lemmas.Bool.{false≢true}
 use Rattle.lp_tern.specs.declared.tern.Tern.{Tern}
@@ -10,11 +10,11 @@ use Rattle.lp_expr.specs.Formula.{truth, completions}
 use Rattle.lp_model.specs.LibraryView.{ExprView, PgPinView, CellView}
 use Rattle.lp_design.specs.Keys.{Name, Path, same_bool}
 use Rattle.lp_design.specs.Netlists.{first}
-use Rattle.lp_design.specs.Settled.{state_in, is_on}
-use Rattle.lp_pins.specs.Pins.{SupplySource, FromTop, Powered, Supply, PinAssignment, Pair, pair_on, state_from, supply_of_pin, source_of_pg, onness, is_power, pg_named, level_by, levels, sources_named, is_consistent, is_zero_for, is_up}
+use Rattle.lp_design.specs.Settled.{is_on}
+use Rattle.lp_pins.specs.Pins.{SupplySource, FromTop, Powered, PinAssignment, Pair, pair_on, state_from, source_of_pg, onness, pg_named, level_by, levels, sources_named, is_consistent, is_zero_for, is_up}
 use Rattle.lp_plain.specs.Cells.{on_with, levels_with, is_down_with, follows_supply, is_power_at}
 use Rattle.lp_plain.specs.Carried.{Each, IsJoined}
-use Rattle.lp_plain.proofs.Choices.{level_by_kind, levels_of, source_of_kind, value_of_kind, always_zero, is_one, zero_where_on}
+use Rattle.lp_plain.proofs.Choices.{level_by_kind, levels_of, source_of_kind, value_of_kind, is_one, zero_where_on}
 
 pub one_part : (a b : Bool) → (a && b) ≡ true → a ≡ true
 one_part true b e = refl

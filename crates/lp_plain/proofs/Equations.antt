@@ -1,28 +1,23 @@
 -- The equations of a plain design under its intent and those of a netlist that carries it say the same.
-use Rattle.std.proofs.Common.{◌≡◌, ℕ, Bool, true, false, not, ◌&&◌, cond, List, [], ◌∷◌, Option, Some, None, ◌⊎◌, inl, inr, refl, sym, ◌∙◌, ap, subst}
-use Rattle.std.specs.Prelude.{is_none, bytes_eq, slice_get, option_and_then, if◌then◌else◌}
-use Rattle.std.specs.List.{list_all}
-use Rattle.std.proofs.lemmas.Bool.{false≢true, both_ways}
-use Rattle.lp_tern.specs.declared.tern.Tern.{Tern}
+use Rattle.std.proofs.Common.{◌≡◌, ℕ, Bool, true, false, not, ◌&&◌, List, [], ◌∷◌, Option, Some, None, ◌⊎◌, inl, inr, refl, sym, ◌∙◌, ap, subst}
+use Rattle.std.specs.Prelude.{option_and_then, if◌then◌else◌}
+use Rattle.std.proofs.lemmas.Bool.{false≢true}
 use Rattle.lp_tern.specs.declared.tern.Tern.TheVariants.{X}
-use Rattle.lp_tern.specs.declared.supply.SupplyState.{SupplyState}
-use Rattle.lp_tern.specs.declared.supply.SupplyState.TheVariants.{Unknown}
-use Rattle.lp_model.specs.LibraryView.{ExprView, PgPinView, PinView, CellView}
-use Rattle.lp_settling.specs.Settling.{Settles, SettlesOnce}
+use Rattle.lp_model.specs.LibraryView.{ExprView, PinView, CellView}
 use Rattle.lp_design.specs.Keys.{Name, Path, Node, Inner, Outer, Fixed, Way, Source, CellPin, SwitchedPin, Environment, From}
 use Rattle.lp_design.specs.Netlists.{first, cell_at}
 use Rattle.lp_design.specs.Graph.{source_of, trail}
-use Rattle.lp_design.specs.Intents.{SetNumber, SupplySet, Origin, FromPort, FromSwitch}
+use Rattle.lp_design.specs.Intents.{SetNumber, SupplySet}
 use Rattle.lp_design.specs.Domains.{start_rail, source_supply}
-use Rattle.lp_design.specs.Chains.{operators_at, rail, rail_along, rail_after}
-use Rattle.lp_design.specs.Settled.{Key, At, Of, Value, Logic, State, Assignment, Design, Event, Registers, at, state_of, logic_in, state_in, is_on, both_on, set_at, set_on, sets_under, is_under, kept, through, pin_named, output_by, output_of, node_equation, origin_equation, equation, pins_at, output}
-use Rattle.lp_pins.specs.Pins.{SupplySource, FromTop, FromSwitched, Powered, PinKey, Signal, Supply, PinAssignment, PinEvent, pair_on, signal_at, state_from, state_pair, read_by, pg_named, is_up, is_data, is_unfit, is_unfit_at, output_at, cell_output_at, top_input, signal_equation, switched_of, switched_state, switch_equation, pin_equation, pins_read, output_by_pins}
-use Rattle.lp_plain.specs.Cells.{follows, is_plain_cell}
+use Rattle.lp_design.specs.Chains.{rail, rail_along, rail_after}
+use Rattle.lp_design.specs.Settled.{Assignment, Design, Event, Registers, at, state_of, is_on, both_on, set_at, set_on, sets_under, is_under, kept, through, pin_named, output_by, output_of, node_equation, pins_at}
+use Rattle.lp_pins.specs.Pins.{FromTop, Powered, PinAssignment, PinEvent, pair_on, signal_at, state_from, read_by, is_up, is_data, is_unfit, is_unfit_at, output_at, cell_output_at, top_input, signal_equation, pins_read}
+use Rattle.lp_plain.specs.Cells.{follows}
 use Rattle.lp_plain.specs.Designs.{supply_at, driver_of, receiver_of, IsPlain}
-use Rattle.lp_plain.specs.Carried.{LeadsFromPort, AtPort, Along, Carries}
+use Rattle.lp_plain.specs.Carried.{Carries}
 use Rattle.lp_plain.specs.Alike.{shown, shown_by_pins}
-use Rattle.lp_plain.proofs.Down.{one_part, other_part, up_where_on}
-use Rattle.lp_plain.proofs.Reading.{under_self, all-first, kept-lost, no_shifter, no_switched, pin_follows, apart_too, ports, driver_ports, receiver_ports, plain_cell, read_as_is, pins-same, output-same}
+use Rattle.lp_plain.proofs.Down.{up_where_on}
+use Rattle.lp_plain.proofs.Reading.{under_self, kept-lost, no_shifter, pin_follows, apart_too, ports, driver_ports, receiver_ports, read_as_is, pins-same, output-same}
 
 module _ (d : Design) (one : SupplySet) (plain : IsPlain d one) (w : Powered) (own : Node → Bool) (power gnd : Name) (carries : Carries d w own power gnd) where
   -- two assignments, one of each side, with the same values at the nodes of the design and the same states of the one supply

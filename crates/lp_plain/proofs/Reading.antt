@@ -1,6 +1,6 @@
 -- What nodes and pins of a netlist that carries a plain design read.
 use Rattle.std.proofs.Common.{◌≡◌, ℕ, zero, suc, ◌+◌, Bool, true, false, not, ◌||◌, ◌&&◌, cond, List, [], ◌∷◌, map, Option, Some, None, ◌⊎◌, inl, inr, refl, sym, ◌∙◌, ap, subst, arith}
-use Rattle.std.specs.Prelude.{is_none, bytes_eq, IsTrue, slice_get, nat_lt, if◌then◌else◌, flat_map}
+use Rattle.std.specs.Prelude.{is_none, bytes_eq, slice_get, if◌then◌else◌, flat_map}
 use Rattle.std.specs.List.{list_all}
 use Rattle.std.proofs.lemmas.Bool.{false≢true, both_ways, le-ltb}
 use Rattle.std.proofs.lemmas.Slice.Eq.{bytes_eq-Decides}
@@ -10,17 +10,17 @@ use Rattle.lp_tern.specs.declared.supply.SupplyState.{SupplyState}
 use Rattle.lp_tern.specs.declared.supply.SupplyState.TheVariants.{On, Off, Unknown}
 use Rattle.lp_tern.specs.Values.{replacements, agreed}
 use Rattle.lp_expr.specs.Formula.{truth, completions}
-use Rattle.lp_model.specs.LibraryView.{ExprView, PgPinView, PinView, StateView, CellView}
+use Rattle.lp_model.specs.LibraryView.{ExprView, PgPinView, PinView, CellView}
 use Rattle.lp_rows.specs.Voltages.{under_of}
-use Rattle.lp_design.specs.Keys.{Name, Path, Node, Inner, Outer, Fixed, Way, Source, CellPin, SwitchedPin, Environment, From}
-use Rattle.lp_design.specs.Netlists.{Structure, first, cell_at}
+use Rattle.lp_design.specs.Keys.{Name, Path, Node, Inner, Outer, Fixed, Source, CellPin, SwitchedPin, Environment, From}
+use Rattle.lp_design.specs.Netlists.{first, cell_at}
 use Rattle.lp_design.specs.Graph.{source_of, trail, going_back, way_in, beginning}
 use Rattle.lp_design.specs.Intents.{SupplySet}
-use Rattle.lp_design.specs.Settled.{Assignment, Design, Registers, at, at_some, kept, state_in, pin_named, state_named, value_named, named_value, function_value, output_by, node_at_pin, pins_at}
-use Rattle.lp_pins.specs.Pins.{SupplySource, FromTop, SupplyNodes, Powered, Supply, PinAssignment, Pair, pair_on, pair_under, state_from, state_pair, signal_at, begins, supply_begun, supply_of_node, supply_of_pin, source_of_pg, state_of_pg, state_of_ground, related, related_of_pin, related_of, pin_supply_begun, driver_begun, driving, some_under, is_joined, read_by, is_power, is_input_pin, input_value, pin_value, pins_read}
-use Rattle.lp_plain.specs.Cells.{follows, follows_supply, is_power_at, is_ground_at, has_ground, is_plain_pin, is_plain_state, is_plain_cell}
+use Rattle.lp_design.specs.Settled.{Assignment, Design, at, at_some, kept, pin_named, state_named, value_named, named_value, function_value, output_by, node_at_pin, pins_at}
+use Rattle.lp_pins.specs.Pins.{FromTop, SupplyNodes, Powered, PinAssignment, Pair, state_from, state_pair, signal_at, begins, supply_begun, supply_of_node, state_of_pg, state_of_ground, related, related_of_pin, related_of, pin_supply_begun, driver_begun, driving, some_under, is_joined, read_by, is_power, is_input_pin, input_value, pin_value, pins_read}
+use Rattle.lp_plain.specs.Cells.{follows, is_power_at, is_ground_at, has_ground, is_plain_pin, is_plain_state, is_plain_cell}
 use Rattle.lp_plain.specs.Designs.{IsPlain}
-use Rattle.lp_plain.specs.Carried.{Each, IsJoined, AreJoined, port_for, Carries}
+use Rattle.lp_plain.specs.Carried.{IsJoined, AreJoined, Carries}
 use Rattle.lp_plain.proofs.Down.{one_part, other_part, Each-get}
 
 -- nothing is under itself

@@ -1,6 +1,6 @@
 -- The runs of a plain design under its intent and of a netlist that carries it show the same.
-use Rattle.std.proofs.Common.{◌≡◌, ℕ, Bool, true, false, ◌&&◌, cond, List, [], ◌∷◌, map, Option, Some, None, refl, sym, ◌∙◌, ap, subst}
-use Rattle.std.specs.Prelude.{slice_get, IsTrue, option_and_then}
+use Rattle.std.proofs.Common.{◌≡◌, ℕ, Bool, true, List, [], ◌∷◌, map, Option, Some, None, refl, sym, ◌∙◌, ap, subst}
+use Rattle.std.specs.Prelude.{option_and_then}
 use Rattle.std.specs.List.{list_all}
 use Rattle.lp_tern.specs.declared.tern.Tern.{Tern}
 use Rattle.lp_tern.specs.declared.tern.Tern.TheVariants.{X}
@@ -10,21 +10,21 @@ use Rattle.lp_settling.specs.Settling.{IsOrder, Covers, SettlesOnce}
 use Rattle.lp_settling.proofs.Laws.{settles_once}
 use Rattle.lp_design.specs.Keys.{Name, Path, Node, Outer}
 use Rattle.lp_design.specs.Netlists.{cell_at}
-use Rattle.lp_design.specs.Intents.{SupplySet, Strategy}
-use Rattle.lp_design.specs.Settled.{Key, Logic, Assignment, Design, Event, Registers, set_on, kept, function_value, pins_at, equation}
+use Rattle.lp_design.specs.Intents.{SupplySet}
+use Rattle.lp_design.specs.Settled.{Key, Logic, Assignment, Design, Event, Registers, kept, function_value, pins_at, equation}
 use Rattle.lp_design.specs.Reads.{keys, reads}
-use Rattle.lp_design.specs.Registers.{States, state_after, cell_after, pins_before, restored, primary_on, retention, states_after, IsRun, RunsOnce}
+use Rattle.lp_design.specs.Registers.{States, state_after, cell_after, pins_before, restored, primary_on, states_after, IsRun}
 use Rattle.lp_design.proofs.Looks.{looks}
 use Rattle.lp_design.proofs.Runs.{runs}
-use Rattle.lp_pins.specs.Pins.{Powered, PinAssignment, PinEvent, is_up, pins_read, SettlesPins}
-use Rattle.lp_pins.specs.Registers.{read_before, restored_in, copy_kept, fires_in, restore_of, state_is_up, main_in, states_after_by_pins, IsRunByPins, RunsOnceByPins}
+use Rattle.lp_pins.specs.Pins.{Powered, PinAssignment, is_up, pins_read, SettlesPins}
+use Rattle.lp_pins.specs.Registers.{read_before, restored_in, copy_kept, state_is_up, main_in, states_after_by_pins, IsRunByPins}
 use Rattle.lp_plain.specs.Cells.{is_plain_state}
-use Rattle.lp_plain.specs.Designs.{supply_at, IsPlain}
+use Rattle.lp_plain.specs.Designs.{IsPlain}
 use Rattle.lp_plain.specs.Carried.{Carries}
 use Rattle.lp_plain.specs.Alike.{output_bits, shown, trace, shown_by_pins, trace_by_pins, at_ports, RunsAlike}
 use Rattle.lp_plain.proofs.Down.{one_part, other_part}
 use Rattle.lp_plain.proofs.Reading.{kept-lost, no_retention_cell, plain_state, pins-same, function-same}
-use Rattle.lp_plain.proofs.Equations.{Alike, up_same, output_same}
+use Rattle.lp_plain.proofs.Equations.{up_same, output_same}
 use Rattle.lp_plain.proofs.Settled.{SameValues, to_pins, alike_pins, pins_settle, pins_only}
 
 module _ (d : Design) (one : SupplySet) (plain : IsPlain d one) (w : Powered) (own : Node → Bool) (power gnd : Name) (carries : Carries d w own power gnd) where

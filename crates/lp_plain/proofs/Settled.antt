@@ -1,19 +1,18 @@
 -- What settles under intent settles by pins, and nothing else does.
-use Rattle.std.proofs.Common.{◌≡◌, ℕ, Bool, true, false, cond, List, [], ◌∷◌, Option, Some, None, ◌⊎◌, inl, inr, refl, sym, ◌∙◌, ap, subst}
-use Rattle.std.specs.Prelude.{is_none, bytes_eq, slice_get, if◌then◌else◌}
+use Rattle.std.proofs.Common.{◌≡◌, ℕ, Bool, true, false, cond, Option, Some, None, refl, sym, ◌∙◌, ap}
+use Rattle.std.specs.Prelude.{is_none, bytes_eq, slice_get}
 use Rattle.std.specs.List.{list_all}
-use Rattle.std.proofs.lemmas.Bool.{cases_Bool, both_ways, false≢true}
+use Rattle.std.proofs.lemmas.Bool.{both_ways, false≢true}
 use Rattle.lp_tern.specs.declared.tern.Tern.TheVariants.{X}
-use Rattle.lp_tern.specs.declared.supply.SupplyState.{SupplyState}
 use Rattle.lp_tern.specs.declared.supply.SupplyState.TheVariants.{Unknown}
 use Rattle.lp_model.specs.LibraryView.{SwitchedView, PgPinView, CellView}
 use Rattle.lp_settling.specs.Settling.{Settles, SettlesOnce}
-use Rattle.lp_design.specs.Keys.{Name, Path, Node, Inner, Outer, Fixed, Source, Environment, From}
-use Rattle.lp_design.specs.Netlists.{first, cell_at}
+use Rattle.lp_design.specs.Keys.{Name, Path, Node, Inner, Outer, Fixed}
+use Rattle.lp_design.specs.Netlists.{cell_at}
 use Rattle.lp_design.specs.Graph.{source_of}
 use Rattle.lp_design.specs.Intents.{SupplySet, Origin, FromPort, FromSwitch}
-use Rattle.lp_design.specs.Settled.{Key, At, Of, Value, Logic, State, Assignment, Design, Event, Registers, at, state_of, logic_in, state_in, node_equation, origin_equation, equation}
-use Rattle.lp_pins.specs.Pins.{SupplySource, FromTop, FromSwitched, Powered, PinKey, Signal, Supply, PinAssignment, PinEvent, signal_at, pg_named, top_input, signal_equation, switched_of, switched_state, switch_equation, pin_equation}
+use Rattle.lp_design.specs.Settled.{At, Of, Logic, State, Assignment, Design, Event, Registers, at, logic_in, state_in, node_equation, origin_equation, equation}
+use Rattle.lp_pins.specs.Pins.{FromTop, FromSwitched, Powered, PinKey, Signal, Supply, PinAssignment, PinEvent, signal_at, pg_named, top_input, signal_equation, switched_of, switched_state, switch_equation, pin_equation}
 use Rattle.lp_plain.specs.Designs.{IsPlain}
 use Rattle.lp_plain.specs.Carried.{LeadsFromPort, FromNothing, AtPort, Along, Carries}
 use Rattle.lp_plain.proofs.Reading.{all-first, no_switched}

@@ -2,11 +2,11 @@
 use Rattle.std.specs.Prelude.{◌≡◌, ℕ, Bool, true, false, List, [], ◌∷◌, Option, Some, None, IsTrue, if◌then◌else◌, bytes_eq}
 use Rattle.std.specs.List.{list_all}
 use Rattle.lp_model.specs.LibraryView.{PgPinView, PinView, CellView}
-use Rattle.lp_design.specs.Keys.{Name, Path, Node, Outer, Fixed, Way, Source, Environment, From}
+use Rattle.lp_design.specs.Keys.{Name, Path, Node, Outer, Fixed, Way, Environment, From}
 use Rattle.lp_design.specs.Netlists.{cell_at}
 use Rattle.lp_design.specs.Graph.{source_of}
 use Rattle.lp_design.specs.Settled.{Design, pin_named, node_at_pin}
-use Rattle.lp_pins.specs.Pins.{SupplySource, FromTop, SupplyNodes, Powered, is_power, supply_of_node, supply_of_pin}
+use Rattle.lp_pins.specs.Pins.{FromTop, SupplyNodes, Powered, is_power, supply_of_node, supply_of_pin}
 use Rattle.lp_plain.specs.Alike.{output_bits}
 
 abbrev pub Each : {A : Type 0} → (A → Type 0) → List A → Type 0

@@ -1,10 +1,10 @@
 -- Designs in which power intent inserts nothing and one supply serves everything (own rule).
-use Rattle.std.specs.Prelude.{◌≡◌, ℕ, Bool, List, [], Option, Some, None, IsTrue, slice_get}
+use Rattle.std.specs.Prelude.{◌≡◌, ℕ, Bool, [], Option, Some, None, IsTrue, slice_get}
 use Rattle.lp_model.specs.LibraryView.{CellView}
-use Rattle.lp_design.specs.Keys.{Name, Path, Node, Way, Source, SwitchedPin}
+use Rattle.lp_design.specs.Keys.{Name, Path, Node, Way, SwitchedPin}
 use Rattle.lp_design.specs.Netlists.{cell_at}
 use Rattle.lp_design.specs.Graph.{source_of}
-use Rattle.lp_design.specs.Intents.{SetNumber, SupplySet, Origin, FromPort, FromSwitch}
+use Rattle.lp_design.specs.Intents.{SetNumber, SupplySet, FromPort, FromSwitch}
 use Rattle.lp_design.specs.Domains.{domain_of, primary_of, supply_of_port}
 use Rattle.lp_design.specs.Chains.{operators_at}
 use Rattle.lp_design.specs.Settled.{Design, set_at}

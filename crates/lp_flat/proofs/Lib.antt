@@ -1,0 +1,7 @@
+pub mod Carried
+mod Computed
+pub mod Graphs
+pub mod Lists
+pub mod Plain
+pub mod Sources
+pub mod Supplies

@@ -1,0 +1,4 @@
+pub mod Designs
+pub mod Netlists
+pub mod Samples
+pub mod Tests
