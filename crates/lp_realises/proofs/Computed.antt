@@ -1,62 +1,23 @@
 -- A netlist with a clamp realises its design, and others do not.
 use Rattle.std.proofs.Common.{◌≡◌, List, true, false, [], ◌∷◌, Some, None, refl, arith}
 use Rattle.std.proofs.lemmas.Fmt.{decimal_digit}
-use Rattle.std.specs.Prelude.{ℕ, ◌==◌, Bool, codes, map, if◌then◌else◌, bytes_eq}
-use Rattle.lp_expr.specs.declared.step.Step.TheVariants.{Variable, Not}
+use Rattle.std.specs.Prelude.{Bool, codes, map, if◌then◌else◌, bytes_eq}
 use Rattle.lp_model.specs.declared.intent.Applies.TheVariants.{Inputs, Outputs}
-use Rattle.lp_model.specs.declared.intent.DeclaredState.TheVariants.{On, Off}
-use Rattle.lp_model.specs.declared.library.PinUse.TheVariants.{Plain}
-use Rattle.lp_model.specs.declared.supply.OriginKind.TheVariants.{Port}
-use Rattle.lp_model.specs.declared.supply.SetOrigins.{SetOrigins}
-use Rattle.lp_model.specs.declared.supply.Supplies.{Supplies}
+use Rattle.lp_model.specs.declared.intent.DeclaredState.TheVariants.{On}
 use Rattle.lp_model.specs.NetlistView.{ByName, ConnectionView, InstanceView, ModuleView}
-use Rattle.lp_model.specs.LibraryView.{CellView}
 use Rattle.lp_design.specs.Keys.{Name, Inner}
 use Rattle.lp_design.specs.Netlists.{Structure}
 use Rattle.lp_design.specs.Intents.{Intent, AtInstance}
 use Rattle.lp_design.specs.Samples.{plain, wide, with_strategies, isolation}
-use Rattle.lp_network.specs.Samples.{origin}
 use Rattle.lp_pins.proofs.Clamped.{outer, inner, joined}
-use Rattle.lp_fit.specs.Samples.{buffer, clamp, cell, plain_pgs, input, output}
+use Rattle.lp_fit.specs.Samples.{buffer, clamp}
+use Rattle.lp_realises.specs.Samples.{inverter, cells, supplies, project, by_the_block}
 use Rattle.lp_realises.specs.Projects.{Project}
 use Rattle.lp_realises.specs.Operators.{all_operators, Placement}
 use Rattle.lp_realises.specs.Ends.{AtPin, AtTop, intended}
 use Rattle.lp_realises.specs.Controls.{control_node, reads_too_low}
 use Rattle.lp_realises.specs.Realises.{Realises, same_instances, has_the_cells, begins_right, controls_begin, supplies_begin}
 use Rattle.lp_realises.specs.Implements.{Lists, operator_path, as_chosen}
-
--- ---- the library, the supplies and the source
-
-abbrev inverter : CellView
-inverter = cell (codes "INV") 1000000 plain_pgs (input (codes "A") Plain ∷ output (codes "Y") (record { variables = codes "A" ∷ []; steps = Variable 0 ∷ Not ∷ [] }) ∷ [])
-
-abbrev cells : List CellView
-cells = inverter ∷ buffer ∷ clamp ∷ []
-
-abbrev set_of : ℕ → SetOrigins
-set_of k = record { power = record { 0 = k }; gnd = record { 0 = 2 }; nwell = record { 0 = k }; pwell = record { 0 = 2 }; deepnwell = record { 0 = k }; deeppwell = record { 0 = 2 } }
-
--- the top's supply at 1.0, and the block's at 1.0 or off
-abbrev supplies : Supplies
-supplies = record {
-  origins = origin 0 (Port (On 1000000 ∷ [])) ∷ origin 1 (Port (On 1000000 ∷ Off ∷ [])) ∷ origin 2 (Port []) ∷ [];
-  rows = [];
-  sets = Some (set_of 0) ∷ Some (set_of 1) ∷ [];
-}
-
-abbrev project : Intent → Project
-project i = record {
-  structure = record plain { cells = cells };
-  intent = i;
-  supplies = supplies;
-  node = λ k. Inner (codes "en") None [];
-  margin = 0;
-  fuel = 8;
-  port_of_origin = λ o. if o == 0 then codes "lp_v_VDD" else if o == 1 then codes "lp_v_VDC" else codes "lp_v_VSS";
-}
-
-abbrev by_the_block : Intent
-by_the_block = with_strategies (isolation 1 None Outputs ∷ [])
 
 -- ---- the written netlist
 
@@ -143,7 +104,7 @@ the_bit = rw (decimal_digit 1 (omega arith), decimal_digit 0 (omega arith)) refl
 
 -- the rail of a net of the block may be lower than a supply that reads it
 abbrev lower_block : Project
-lower_block = record (project (with_strategies [])) { supplies = record supplies { origins = origin 0 (Port (On 1000000 ∷ [])) ∷ origin 1 (Port (On 800000 ∷ [])) ∷ origin 2 (Port []) ∷ [] } }
+lower_block = record (project (with_strategies [])) { supplies = supplies (On 800000 ∷ []) [] }
 
 too_low : map (λ p. reads_too_low p (Inner (codes "o") None (codes "u" ∷ [])) (Some 0)) (lower_block ∷ record lower_block { margin = 200000 } ∷ project (with_strategies []) ∷ []) ≡ true ∷ false ∷ false ∷ []
 too_low = refl

@@ -4,3 +4,4 @@ pub mod Implements
 pub mod Operators
 pub mod Projects
 pub mod Realises
+pub mod Samples
