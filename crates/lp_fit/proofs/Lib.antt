@@ -1,1 +1,3 @@
+pub mod Chosen
 mod Computed
+pub mod Equal

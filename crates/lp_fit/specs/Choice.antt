@@ -1,5 +1,5 @@
 -- Which of the cells that fit is taken (own rule; IEEE 1801-2015 use_interface_cell, map_retention_cell and map_power_switch list the cells that may be).
-use Rattle.std.specs.Prelude.{ℕ, nat_le, Bool, true, not, ◌&&◌, ◌||◌, List, Option, Some, None, bytes_eq}
+use Rattle.std.specs.Prelude.{◌≡◌, ◌≤◌, ◌<◌, slice_get, ℕ, nat_le, Bool, true, not, ◌&&◌, ◌||◌, List, Option, Some, None, bytes_eq}
 use Rattle.std.specs.List.{list_any, list_all}
 use Rattle.lp_model.specs.LibraryView.{CellView}
 use Rattle.lp_design.specs.Domains.{first_number}
@@ -17,6 +17,14 @@ is_least fits cells c = fits c && list_all (λ (d : CellView). not (fits d) || n
 -- the place in the library of the first cell of least area that fits
 abbrev pub choice : (CellView → Bool) → List CellView → Option ℕ
 choice fits cells = first_number (is_least fits cells) 0 cells
+
+-- in other words: no cell that fits has less area, and each earlier one that fits has more
+pub record IsChoice (fits : CellView → Bool) (cells : List CellView) (k : ℕ) : Type 0 where
+  pub cell : CellView
+  pub there : slice_get cells k ≡ Some cell
+  pub is_fit : fits cell ≡ true
+  pub least : (j : ℕ) (other : CellView) → slice_get cells j ≡ Some other → fits other ≡ true → cell.area ≤ other.area
+  pub first : (j : ℕ) (other : CellView) → j < k → slice_get cells j ≡ Some other → fits other ≡ true → cell.area < other.area
 
 abbrev pub clamp_choice : ClampNeed → List CellView → Option ℕ
 clamp_choice n cells = choice (λ c. is_mapped n.mapped c && fits_clamp n c) cells

@@ -1,12 +1,12 @@
 -- Origins, roots, sets and what is used, computed on the small supply networks.
-use Rattle.std.proofs.Common.{◌≡◌, List, true, false, [], ◌∷◌, Some, None, refl}
+use Rattle.std.proofs.Common.{◌≡◌, List, true, false, [], ◌∷◌, ◌++◌, Some, None, refl}
 use Rattle.std.specs.Prelude.{ℕ, codes, map}
 use Rattle.lp_model.specs.declared.supply.SetOrigins.{SetOrigins}
 use Rattle.lp_model.specs.declared.intent.Applies.TheVariants.{Outputs}
 use Rattle.lp_design.specs.Keys.{Inner}
 use Rattle.lp_design.specs.Intents.{Intent, FromPort, FromSwitch, BySet, ByDomain}
 use Rattle.lp_design.specs.Samples.{with_strategies, isolation}
-use Rattle.lp_origins.specs.Commands.{Supply, PortAt, NetAt}
+use Rattle.lp_origins.specs.Commands.{Command, MakesPort, Supply, PortAt, NetAt}
 use Rattle.lp_origins.specs.Groups.{group_of, is_closed}
 use Rattle.lp_origins.specs.Origins.{sources, origin_of, origins_of, root_within, origin_view}
 use Rattle.lp_origins.specs.Sets.{SupplySet, set_origins, same_set_origins}
@@ -23,6 +23,13 @@ origins_in_command_order = refl
 
 no_such_net : origin_of three 6 (net (codes "VDX")) ≡ None
 no_such_net = refl
+
+-- a port of direction out is no source
+abbrev with_output : List Command
+with_output = three ++ (MakesPort (in_top (codes "VO")) false ∷ [])
+
+output_port : map (origin_of with_output 7) (PortAt (in_top (codes "VO")) ∷ net (codes "VSS") ∷ []) ≡ None ∷ Some 2 ∷ []
+output_port = refl
 
 -- ---- a switch, and a port of a lower scope
 

@@ -1,5 +1,5 @@
 -- The commands that make a supply network, their names whole (IEEE 1801-2015 create_supply_port, create_supply_net, connect_supply_net, create_power_switch).
-use Rattle.std.specs.Prelude.{Bool, ◌&&◌, false, List, bytes_eq}
+use Rattle.std.specs.Prelude.{ℕ, Bool, ◌&&◌, false, List, bytes_eq}
 use Rattle.lp_design.specs.Keys.{Name, Path, same_path, Node}
 
 -- a name with the scope in which it was made
@@ -35,3 +35,5 @@ pub data Command : Type 0 where
   -- a net with ports
   Connects : Scoped → List Scoped → Command
   MakesSwitch : PowerSwitch → Command
+  -- a supply set, by its number in command order
+  MakesSet : ℕ → Command

@@ -1,0 +1,4 @@
+pub mod Domains
+pub mod Readings
+pub mod Strategies
+pub mod Supplies
