@@ -1,0 +1,12 @@
+//! The lines of all faults: paths of instances and pins, port bits, supplies and strategies by their names.
+#![tactic(auto)]
+
+mod item;
+mod items;
+mod known;
+mod line;
+mod path;
+mod supply;
+
+pub use known::Known;
+pub use line::write_fault;
