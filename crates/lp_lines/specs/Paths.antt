@@ -1,5 +1,5 @@
 -- The parts of a netlist as texts: the names of the instances from the top down, then the part's own name, joined by `/` (own rule). A number that no table has gives an empty text.
-use Rattle.std.specs.Prelude.{ℕ, zero, suc, ◌==◌, Bool, false, List, [], ◌∷◌, ◌++◌, codes, decimal, Option, Some, None, slice_get, option_and_then, if◌then◌else◌}
+use Rattle.std.specs.Prelude.{◌≡◌, ℕ, zero, suc, ◌==◌, Bool, false, List, [], ◌∷◌, ◌++◌, codes, decimal, Option, Some, None, slice_get, option_and_then, if◌then◌else◌}
 use Rattle.std.specs.List.{flat_map}
 use Rattle.std.specs.Option.{option_map}
 use Rattle.lp_text.specs.Texts.{text_at}
@@ -124,3 +124,11 @@ port_in names place m = text_of (λ port. text_at names port.name.0) (slice_get 
 -- a whole port of an instance, by its place in the header of the instance's module
 abbrev pub port_text : List (List ℕ) → GraphView → InstId → ℕ → List ℕ
 port_text names g inst place = text_in names g.instances inst (text_of (port_in names place) (module_of g inst))
+
+-- ---- paths by a relation
+
+-- so many instances stand around an instance, and these are the names from the top down to it
+pub data Leads (names : List (List ℕ)) (instances : List Inst) : ℕ → InstId → List (List ℕ) → Type 0 where
+  top_itself : {inst : InstId} → standing instances inst ≡ None → Leads names instances 0 inst []
+  one_below : {depth : ℕ} {inst parent : InstId} {name : NameId} {above : List (List ℕ)} → standing instances inst ≡ Some (parent, name) → Leads names instances depth parent above
+      → Leads names instances (suc depth) inst (above ++ text_at names name.0 ∷ [])
