@@ -1,0 +1,5 @@
+pub mod Items
+pub mod Lines
+pub mod Paths
+pub mod Supplies
+pub mod Views
