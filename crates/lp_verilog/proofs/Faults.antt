@@ -76,7 +76,7 @@ module _ (names : List (List ℕ)) (text : List ℕ) (clean : Clean names (lengt
       let table = t.names in
       let long = t.long in
       let k = length text - length rest2 + 1 in
-      let d : Directed m2.declaring.form m2.waiting m2.draft.scope = λ ports waits. not_stuck (is_ports m2.declaring.form) (plain m2.waiting) (list_any (λ e. can_take e.1) m2.draft.scope) free ports waits in
+      let d : Directed m2.declaring m2.waiting m2.draft.scope = λ ports waits. not_stuck (is_ports m2.declaring.form) (plain m2.waiting) (list_any (λ e. can_take m2.declaring m2.waiting e.1) m2.draft.scope) free ports waits in
       let go : Led (after table) k (length table) m2 = goes_on (after table) k (length names) (length table) m2 r.sound d (omega (arith, long)) in
       let tail = words table go.rest in
       let new = respell front text (32 ∷ tail) in

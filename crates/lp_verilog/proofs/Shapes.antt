@@ -5,7 +5,7 @@ use Rattle.std.specs.List.{list_all, list_any}
 use Rattle.std.specs.Map.{lookup}
 use Rattle.indexmap.specs.IndexMap.{insert_entry}
 use Rattle.indexmap.specs.IndexSet.{insert_key}
-use Rattle.std.proofs.lemmas.Bool.{true≢false, and_parts, and_from, false_from_ne_true, eqb-true, eq-eqb}
+use Rattle.std.proofs.lemmas.Bool.{true≢false, and_parts, and_from, or_left, or_right, false_from_ne_true, eqb-true, eq-eqb}
 use Rattle.std.proofs.lemmas.Bool.Decides.{nat_tests}
 use Rattle.lp_model.specs.declared.netlist.BitRange.{BitRange}
 use Rattle.lp_verilog_tokens.specs.declared.token.Token.{Token}
@@ -28,13 +28,20 @@ use Rattle.lp_verilog.specs.Places.{is_naming, plain}
 
 -- ---- what is waited for
 
--- no part of a select is waited for at once
+-- no part of a select, and nothing that may begin with a bracket, is waited for at once
 abbrev pub calm : List Symbol → Bool
 calm (symbols.Index ∷ rest) = false
 calm (symbols.IndexMore ∷ rest) = false
 calm (symbols.SecondIndex ∷ rest) = false
 calm (symbols.Tail ∷ rest) = false
+calm (symbols.Declared ∷ rest) = false
+calm (symbols.Vector ∷ rest) = false
 calm _ = true
+
+-- behind the left bound of a range comes the right one
+abbrev pub then_right : List Symbol → Bool
+then_right (symbols.Expect marks.Colon ∷ symbols.RightBound ∷ rest) = true
+then_right _ = false
 
 -- what is waited for comes from the grammar
 abbrev pub Ok : List Symbol → Type 0
@@ -42,7 +49,7 @@ Ok [] = ⊥
 Ok (symbols.Source ∷ rest) = Unit {0}
 Ok (symbols.Items ∷ rest) = (plain rest ≡ true) × (calm rest ≡ true) × Ok rest
 Ok (symbols.Index ∷ rest) = (plain rest ≡ true) × (is_source rest ≡ false) × Ok rest
-Ok (symbols.LeftBound ∷ rest) = (calm rest ≡ true) × (is_source rest ≡ false) × Ok rest
+Ok (symbols.LeftBound ∷ rest) = (then_right rest ≡ true) × (calm rest ≡ true) × (is_source rest ≡ false) × Ok rest
 Ok (symbols.RightBound ∷ rest) = (calm rest ≡ true) × (is_source rest ≡ false) × Ok rest
 Ok (symbols.Expect mark ∷ rest) = (is_bracket (tokens.Mark mark) ≡ false) × (calm rest ≡ true) × (is_source rest ≡ false) × Ok rest
 Ok (s ∷ rest) = (plain rest ≡ true) × (calm rest ≡ true) × (is_source rest ≡ false) × Ok rest
@@ -52,7 +59,7 @@ Fits None rest = Unit {0}
 Fits (Some p) rest = Ok (p.follow ++ rest)
 
 vector_fits : (rest : List Symbol) → (plain rest ≡ true) × (calm rest ≡ true) × (is_source rest ≡ false) × Ok rest → Ok (symbols.LeftBound ∷ symbols.Expect marks.Colon ∷ symbols.RightBound ∷ symbols.Expect marks.CloseBracket ∷ symbols.DeclaredName ∷ rest)
-vector_fits rest h = (refl, refl, (refl, refl, refl, (refl, refl, (refl, refl, refl, h))))
+vector_fits rest h = (refl, refl, refl, (refl, refl, refl, (refl, refl, (refl, refl, refl, h))))
 
 pub fits : (s : Symbol) (t : Token) (rest : List Symbol) → Ok (s ∷ rest) → Fits (production s t) rest
 fits symbols.Source (tokens.Keyword keywords.Module) rest h = (refl, refl, refl, (refl, refl, refl, (refl, refl, tt)))
@@ -100,7 +107,7 @@ fits symbols.Vector (tokens.Name n) rest h = h.3
 fits symbols.Vector _ rest h = tt
 fits symbols.DeclaredName (tokens.Name n) rest h = h.3
 fits symbols.DeclaredName _ rest h = tt
-fits symbols.LeftBound (tokens.Number (Some v)) rest h = h.2
+fits symbols.LeftBound (tokens.Number (Some v)) rest h = h.3
 fits symbols.LeftBound _ rest h = tt
 fits symbols.RightBound (tokens.Number (Some v)) rest h = h.2
 fits symbols.RightBound _ rest h = tt
@@ -313,6 +320,18 @@ some_found test n (x ∷ es) g h =
         let has_it : has x.0 es ≡ true = subst (λ k. has k es ≡ true) is (has_where f.key es f.entry f.there) in
         absurd (true≢false (sym fresh.0 ∙ ap not has_it))) in
         record { key = f.key; entry = f.entry; there = ap (λ b. cond b (Some x.1) (lookup (nat_eq f.key) es)) other ∙ f.there; passes = f.passes; under = f.under; narrow = f.narrow }
+
+pub there_any : (test : Entry → Bool) (k : ℕ) (es : Entries) (e : Entry) → lookup (nat_eq k) es ≡ Some e → test e ≡ true → list_any (λ x. test x.1) es ≡ true
+there_any test k [] e h passes = absurd cc
+there_any test k (x ∷ es) e h passes = by (nat_eq k x.0) h (there_any test k es e)
+  where
+    by : (b : Bool) → cond b (Some x.1) (lookup (nat_eq k) es) ≡ Some e → (lookup (nat_eq k) es ≡ Some e → test e ≡ true → list_any (λ y. test y.1) es ≡ true) → (test x.1 || list_any (λ y. test y.1) es) ≡ true
+    by true f more = let same : x.1 ≡ e = cc in or_left (test x.1) (list_any (λ y. test y.1) es) (ap test same ∙ passes)
+    by false f more = or_right (test x.1) (list_any (λ y. test y.1) es) (more f passes)
+
+-- where one entry passes one test, and the next test too, some entry passes that
+pub some_passes : (first next : Entry → Bool) (n : ℕ) (es : Entries) → Good n es → ((e : Entry) → first e ≡ true → next e ≡ true) → list_any (λ e. first e.1) es ≡ true → list_any (λ e. next e.1) es ≡ true
+some_passes first next n es g more h = let f = some_found first n es g h in there_any next f.key es f.entry f.there (more f.entry f.passes)
 
 -- ---- ports without a direction
 

@@ -1,13 +1,15 @@
 -- Where a text leaves the netlists: at the first token that no netlist has after the same tokens before it (own rule).
-use Rattle.std.specs.Prelude.{◌≡◌, ◌⊎◌, ℕ, ◌+◌, ◌-◌, Bool, true, false, not, ◌&&◌, List, [], ◌∷◌, ◌++◌, length, Some, None, max}
+use Rattle.std.specs.Prelude.{◌≡◌, ◌⊎◌, ℕ, ◌+◌, ◌-◌, Bool, true, false, not, ◌&&◌, ◌||◌, ◌==◌, List, [], ◌∷◌, ◌++◌, length, Option, Some, None, is_some, max}
 use Rattle.std.specs.List.{list_any}
 use Rattle.lp_place.specs.Leaving.{Leaves}
+use Rattle.lp_model.specs.declared.netlist.BitRange.{BitRange}
 use Rattle.lp_model.specs.NetlistView.{ModuleView}
 use Rattle.lp_verilog_tokens.specs.Cutting.{Piece, piece_of}
 use Rattle.lp_verilog_draft.specs.declared.declaring.Form.{Form}
 use Rattle.lp_verilog_draft.specs.declared.declaring.Form.TheVariants as forms
 use Rattle.lp_verilog_draft.specs.declared.scope.Entry.{Entry}
-use Rattle.lp_verilog_draft.specs.Scopes.{lacks_direction}
+use Rattle.lp_verilog_draft.specs.declared.declaring.Declaring.{Declaring}
+use Rattle.lp_verilog_draft.specs.Scopes.{lacks_direction, agrees}
 use Rattle.lp_verilog_grammar.specs.declared.symbol.Symbol.{Symbol}
 use Rattle.lp_verilog_grammar.specs.declared.symbol.Symbol.TheVariants as symbols
 use Rattle.lp_verilog_grammar.specs.declared.reader.Reader.{Reader}
@@ -51,13 +53,27 @@ plain [] = true
 plain (symbols.Source ∷ rest) = true
 plain (s ∷ rest) = not (is_naming s) && plain rest
 
--- a port of the header that has no direction, and that no value and no wire item has named
-abbrev pub can_take : Entry → Bool
-can_take e = lacks_direction e && not e.fixed
+-- the left bound of a range
+abbrev pub has_left : Option BitRange → ℕ → Bool
+has_left None left = false
+has_left (Some r) left = r.left == left
 
--- the name of a port has to come, to which a direction is given, and the header has no such port left
+-- a declaration that is read up to what is waited for can give a name the range that a value or a wire item has settled
+abbrev pub fits_range : Declaring → List Symbol → Entry → Bool
+fits_range d (symbols.Declared ∷ rest) e = agrees d e || is_some e.range
+fits_range d (symbols.Vector ∷ rest) e = agrees d e || is_some e.range
+fits_range d (symbols.LeftBound ∷ rest) e = not e.fixed || is_some e.range
+fits_range d (symbols.RightBound ∷ rest) e = not e.fixed || has_left e.range d.left
+fits_range d (symbols.Expect mark ∷ rest) e = fits_range d rest e
+fits_range d _ e = agrees d e
+
+-- a port of the header to which a direction can be given
+abbrev pub can_take : Declaring → List Symbol → Entry → Bool
+can_take d waiting e = lacks_direction e && fits_range d waiting e
+
+-- the name of a port has to come, to which a direction is given, and no port of the header can be it
 abbrev pub is_stuck : Reader → Bool
-is_stuck m = is_ports m.declaring.form && (not (plain m.waiting) && not (list_any (λ e. can_take e.1) m.draft.scope))
+is_stuck m = is_ports m.declaring.form && (not (plain m.waiting) && not (list_any (λ e. can_take m.declaring m.waiting e.1) m.draft.scope))
 
 -- the first tokens of what is left of a text
 abbrev pub Begins : List Piece → Bool → List ℕ → Type 0
