@@ -5,3 +5,5 @@ pub mod Onward
 pub mod Parts
 pub mod Values
 pub mod Scope
+pub mod Instances
+pub mod ItemSteps
