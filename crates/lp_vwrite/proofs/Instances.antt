@@ -49,12 +49,15 @@ plain_begun : (n : List ℕ) → is_plain n ≡ true → is_begun n ≡ true
 plain_begun [] h = absurd cc
 plain_begun (b ∷ w) h = lead_star b (and_parts (is_lead b) (list_all is_inner w && not (has_text (b ∷ w) reserved_words)) h).0
 
-pub name_begun : (n : List ℕ) → is_begun (name_text n) ≡ true
+name_begun : (n : List ℕ) → is_begun (name_text n) ≡ true
 name_begun n = by (is_plain n) refl
   where
     by : (t : Bool) → is_plain n ≡ t → is_begun (if t then n else codes "\\" ++ (n ++ codes " ")) ≡ true
     by true e = plain_begun n e
     by false e = refl
+
+pub name_starless : (n rest : List ℕ) → is_starless (name_text n ++ rest) ≡ true
+name_starless n rest = begun_starless (name_text n) rest (name_begun n)
 
 bit_begun : (b : BitView) → is_begun (bit_text b) ≡ true
 bit_begun (NetBit n) = name_begun n

@@ -7,3 +7,5 @@ pub mod Values
 pub mod Scope
 pub mod Instances
 pub mod ItemSteps
+pub mod Facts
+pub mod ModuleSteps

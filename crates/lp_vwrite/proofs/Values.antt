@@ -103,7 +103,7 @@ apart_bracket : (rest : List ℕ) → is_apart (91 ∷ rest) ≡ true
 unfolding is_inner
 apart_bracket rest = refl
 
-apart_comma : (rest : List ℕ) → is_apart (44 ∷ rest) ≡ true
+pub apart_comma : (rest : List ℕ) → is_apart (44 ∷ rest) ≡ true
 unfolding is_inner
 apart_comma rest = refl
 
