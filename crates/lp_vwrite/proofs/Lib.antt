@@ -9,3 +9,5 @@ pub mod Instances
 pub mod ItemSteps
 pub mod Facts
 pub mod ModuleSteps
+pub mod Bodies
+pub mod WholeText

@@ -62,15 +62,15 @@ plain-insert (e ∷ es) k v = by (nat_eq k e.0) (plain-insert es k v)
     by true h = refl
     by false h = ap (λ (t : Entries). (e.0, erased e.1) ∷ t) h
 
-ports-plain : (es : Entries) → ports_of (plain es) ≡ ports_of es
+pub ports-plain : (es : Entries) → ports_of (plain es) ≡ ports_of es
 ports-plain [] = refl
 ports-plain (e ∷ es) = ap (λ (t : List Port). with_some (port_of e.0 e.1) t) (ports-plain es)
 
-nets-plain : (es : Entries) → nets_of (plain es) ≡ nets_of es
+pub nets-plain : (es : Entries) → nets_of (plain es) ≡ nets_of es
 nets-plain [] = refl
 nets-plain (e ∷ es) = ap (λ (t : List NetDecl). with_some (net_of e.0 e.1) t) (nets-plain es)
 
-lacking-plain : (es : Entries) → lacking_of (plain es) ≡ None → lacking_of es ≡ None
+pub lacking-plain : (es : Entries) → lacking_of (plain es) ≡ None → lacking_of es ≡ None
 lacking-plain [] h = refl
 lacking-plain (e ∷ es) h = by (lacks_direction e.1) h (lacking-plain es)
   where
