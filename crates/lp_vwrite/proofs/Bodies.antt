@@ -1,11 +1,11 @@
 -- Steps over whole modules, one after another.
-use Rattle.std.proofs.Common.{◌≡◌, ℕ, Bool, true, false, List, [], ◌∷◌, ◌++◌, map, Option, None, Some, refl, sym, ap, ◌∙◌, subst, append_assoc}
+use Rattle.std.proofs.Common.{◌≡◌, ℕ, true, false, List, [], ◌∷◌, ◌++◌, map, Option, None, refl, sym, ap, ◌∙◌, subst, append_assoc}
 use Rattle.std.specs.Prelude.{codes, ◌&&◌, not, flat_map}
 use Rattle.std.specs.List.{list_all}
 use Rattle.std.proofs.lemmas.Bool.{and_parts, and_from}
 use Rattle.std.proofs.lemmas.List.{append-nil, map-append}
 use Rattle.std.proofs.lemmas.List.Folds.{list_all-append}
-use Rattle.lp_text.specs.Texts.{has_text, distinct, distinct-append_left}
+use Rattle.lp_text.specs.Texts.{has_text, distinct}
 use Rattle.lp_text.specs.declared.names.NameId.{NameId}
 use Rattle.lp_model.specs.declared.netlist.BitRange.{BitRange}
 use Rattle.lp_model.specs.declared.netlist.Port.{Port}
@@ -13,7 +13,7 @@ use Rattle.lp_model.specs.declared.netlist.NetDecl.{NetDecl}
 use Rattle.lp_model.specs.declared.netlist.Instance.{Instance}
 use Rattle.lp_model.specs.declared.netlist.Assign.{Assign}
 use Rattle.lp_model.specs.declared.netlist.Module.{Module}
-use Rattle.lp_model.specs.NetlistView.{BitView, PortView, NetView, ConnectionView, ConnectionsView, ByName, ByPosition, InstanceView, AssignView, ModuleView}
+use Rattle.lp_model.specs.NetlistView.{PortView, NetView, ConnectionsView, ByName, ByPosition, InstanceView, AssignView, ModuleView}
 use Rattle.lp_verilog_grammar.specs.declared.reader.Reader.{Reader}
 use Rattle.lp_verilog_draft.specs.Scopes.{Entries, ports_of, nets_of, lacking_of}
 use Rattle.lp_verilog_draft.specs.Steps as draft
@@ -21,15 +21,14 @@ use Rattle.lp_verilog_draft.specs.Verdicts.{Goes, and_then}
 use Rattle.lp_verilog_grammar.specs.declared.symbol.Symbol.TheVariants as symbols
 use Rattle.lp_verilog_grammar.specs.Machine.{finish_module}
 use Rattle.lp_verilog.specs.Reading.{Outcome}
-use Rattle.lp_vwrite.specs.Layout.{declared, range_in, vectors_among, range_of, header_line, port_line, net_line, instance_line, assign_line, module_text}
-use Rattle.lp_vwrite.specs.WellFormed.{is_name, is_range, is_net, is_bit, is_connection, are_connections, is_instance, is_assign, is_module, is_filled, is_constant, names_of}
+use Rattle.lp_vwrite.specs.Layout.{declared, range_of, port_line, net_line, instance_line, assign_line}
+use Rattle.lp_vwrite.specs.WellFormed.{is_name, is_range, is_net, is_bit, is_connection, are_connections, is_instance, is_assign, is_filled, is_constant}
 use Rattle.lp_vwrite.proofs.Onward.{Then, Onward}
 use Rattle.lp_vwrite.proofs.Parts.{id, line_onward, endmodule_onward}
-use Rattle.lp_vwrite.proofs.Values.{bit_of}
 use Rattle.lp_vwrite.proofs.Scope.{Declared, port_entry, listed_entry, wire_entry, instance_entry, names_in, plain, keyed, all_known, is_net_entry, absent_before, ports-plain, nets-plain, lacking-plain}
 use Rattle.lp_vwrite.proofs.ItemSteps.{Ready, at_items, instance_of, assign_of, port_onward, net_onward, instance_onward, assign_onward_line}
 use Rattle.lp_vwrite.proofs.Facts.{Nets, bits_fact, connections_fact, left_allowed}
-use Rattle.lp_vwrite.proofs.ModuleSteps.{listed_ports, port_names, Between, between, header_onward}
+use Rattle.lp_vwrite.proofs.ModuleSteps.{listed_ports, port_names, Between}
 
 -- ---- what is read of a module
 
@@ -194,21 +193,21 @@ module _ (names : List (List ℕ)) (size : ℕ) (o : Outcome) where
         let x : Module = record { name = name; ports = map (port_of names) ps; nets = map (net_of names) ns; instances = insts; assigns = assigns } in
         let seen : plain scope ≡ keyed names (declared_ports ps) ++ (keyed names (declared_nets ns) ++ keyed names (declared_instances is)) = e ∙ keyed_all names ps ns is in
         let ports : ports_of scope ≡ map (port_of names) ps =
-            sym (ports-plain scope) ∙ ap ports_of seen ∙ ports_at_end names ps (keyed names (declared_nets ns) ++ keyed names (declared_instances is))
-            ∙ ap (λ t. map (port_of names) ps ++ t) (ports_of_nets names ns (keyed names (declared_instances is)) ∙ ports_of_instances names is) ∙ append-nil (map (port_of names) ps)
+        sym (ports-plain scope) ∙ ap ports_of seen ∙ ports_at_end names ps (keyed names (declared_nets ns) ++ keyed names (declared_instances is))
+        ∙ ap (λ t. map (port_of names) ps ++ t) (ports_of_nets names ns (keyed names (declared_instances is)) ∙ ports_of_instances names is) ∙ append-nil (map (port_of names) ps)
         in
         let nets : nets_of scope ≡ map (net_of names) ns =
-            sym (nets-plain scope) ∙ ap nets_of seen ∙ nets_of_ports names ps (keyed names (declared_nets ns) ++ keyed names (declared_instances is))
-            ∙ nets_at_end names ns (keyed names (declared_instances is)) ∙ ap (λ t. map (net_of names) ns ++ t) (nets_of_instances names is) ∙ append-nil (map (net_of names) ns)
+        sym (nets-plain scope) ∙ ap nets_of seen ∙ nets_of_ports names ps (keyed names (declared_nets ns) ++ keyed names (declared_instances is))
+        ∙ nets_at_end names ns (keyed names (declared_instances is)) ∙ ap (λ t. map (net_of names) ns ++ t) (nets_of_instances names is) ∙ append-nil (map (net_of names) ns)
         in
         let none : lacking_of scope ≡ None =
-            lacking-plain scope (ap lacking_of seen ∙ lacking_ports names ps (keyed names (declared_nets ns) ++ keyed names (declared_instances is)) ∙ lacking_nets names ns (keyed names (declared_instances is)) ∙ lacking_instances names is)
+        lacking-plain scope (ap lacking_of seen ∙ lacking_ports names ps (keyed names (declared_nets ns) ++ keyed names (declared_instances is)) ∙ lacking_nets names ns (keyed names (declared_instances is)) ∙ lacking_instances names is)
         in
         let m : Reader = record (at_items names size o ranges modules taken name scope insts assigns declaring t n p positional side s q i) { waiting = symbols.Source ∷ [] } in
         let made : draft.module_of m.draft ≡ x = (λ j. record { name = name; ports = ports j; nets = nets j; instances = insts; assigns = assigns }) in
         endmodule_onward names size o rest (at_items names size o ranges modules taken name scope insts assigns declaring t n p positional side s q i) (λ at.
-          subst (Then (Onward names size o (10 ∷ rest))) (sym (finish_read m x none made))
-          (line_onward names size o rest _ (next (draft.module_named name) declaring t n p positional side s q i)))
+        subst (Then (Onward names size o (10 ∷ rest))) (sym (finish_read m x none made))
+        (line_onward names size o rest _ (next (draft.module_named name) declaring t n p positional side s q i)))
 
 -- ---- instances and assigns
 
@@ -300,6 +299,6 @@ module _ (names : List (List ℕ)) (size : ℕ) (o : Outcome) (m : ModuleView)
       let all : (assigns ++ assign_of names a ∷ []) ++ map (assign_of names) xs ≡ assigns ++ map (assign_of names) (a ∷ xs) = append_assoc assigns (assign_of names a ∷ []) (map (assign_of names) xs) in
       let others = assigns_lines xs rest more insts (assigns ++ assign_of names a ∷ []) g.1 known (subst (λ x. Goes_on rest (front ++ more) insts x) (sym all) next) in
       let one = assign_onward_line names size o (range_of m) modules taken name a behind (front ++ more) insts assigns g1.0 g2.0 (left_allowed a.left g4.1)
-          (λ es is. (bits_fact names (declared m) good known_nets size o front more fixed ranged known es is a.left g3.0, bits_fact names (declared m) good known_nets size o front more fixed ranged known es is a.right g4.0)) others
+      (λ es is. (bits_fact names (declared m) good known_nets size o front more fixed ranged known es is a.left g3.0, bits_fact names (declared m) good known_nets size o front more fixed ranged known es is a.right g4.0)) others
       in
       subst (λ t. Goes_on t (front ++ more) insts assigns) (sym (append_assoc (assign_line (range_of m) a) (flat_map (assign_line (range_of m)) xs) rest)) one

@@ -1,5 +1,5 @@
 -- What a well-formed module says of the names and bits that stand in it.
-use Rattle.std.proofs.Common.{◌≡◌, ℕ, ◌≤◌, Bool, true, false, not, cond, List, [], ◌∷◌, ◌++◌, map, Option, None, Some, refl, sym, ap, ◌∙◌, subst, arith}
+use Rattle.std.proofs.Common.{◌≡◌, ℕ, ◌≤◌, Bool, true, false, not, List, [], ◌∷◌, ◌++◌, map, Option, None, Some, refl, sym, ap, ◌∙◌, arith}
 use Rattle.std.specs.Prelude.{◌&&◌, ◌||◌, nat_le}
 use Rattle.std.specs.List.{list_all}
 use Rattle.std.specs.Map.{lookup}
@@ -7,16 +7,13 @@ use Rattle.std.proofs.lemmas.Bool.{and_parts}
 use Rattle.std.proofs.lemmas.Bool.Decides.{nat_tests}
 use Rattle.lp_text.specs.Texts.{same_text, same_text-true, has_text}
 use Rattle.lp_model.specs.declared.netlist.BitRange.{BitRange}
-use Rattle.lp_model.specs.declared.bits.Bit.{Bit}
 use Rattle.lp_model.specs.NetlistView.{BitView, NetBit, SelectBit, ConstBit, ConnectionView, bit_view}
-use Rattle.lp_verilog_draft.specs.declared.scope.Entry.{Entry}
 use Rattle.lp_verilog_draft.specs.declared.value.Side.TheVariants as sides
 use Rattle.lp_verilog_draft.specs.Scopes.{Entries}
 use Rattle.lp_verilog_draft.specs.Values.{is_in}
 use Rattle.lp_verilog.specs.Reading.{Outcome}
 use Rattle.lp_vwrite.specs.Layout.{vectors_among, range_in}
 use Rattle.lp_vwrite.specs.WellFormed.{is_name, is_range, is_net, declaration, is_scalar, has_index, is_bit, is_constant, is_connection}
-use Rattle.lp_vwrite.proofs.Parts.{id}
 use Rattle.lp_vwrite.proofs.Values.{bit_of, allows, IsBit, AllBits}
 use Rattle.lp_vwrite.proofs.Scope.{Declared, names_in, plain, keyed, all_known, text_known, is_net_entry, net_found}
 use Rattle.lp_vwrite.proofs.Instances.{AllConnections}
@@ -116,14 +113,16 @@ module _ (names : List (List ℕ)) (nets : Nets) (good : list_all is_net nets �
         ((named.0, named.1), net_found names n es d more None is named.1 all fixed (ap (lookup (same_text n)) ranged ∙ there))
     bit_fact (SelectBit n i) h =
         let f = index_found (declaration nets n) i h in
-        let named = declared_named n (Some f.0) f.1 in
-        ((named.0, named.1), record {
-          range = f.0;
-          written = vector_found n nets f.0 f.1;
-          net = net_found names n es d more (Some f.0) is named.1 all fixed (ap (lookup (same_text n)) ranged ∙ f.1);
-          inside = f.2;
-          small = index_small f.0 i named.2 f.2;
-        })
+        let named = declared_named n (Some f.0) f.1 in (
+          (named.0, named.1),
+          record {
+            range = f.0;
+            written = vector_found n nets f.0 f.1;
+            net = net_found names n es d more (Some f.0) is named.1 all fixed (ap (lookup (same_text n)) ranged ∙ f.1);
+            inside = f.2;
+            small = index_small f.0 i named.2 f.2;
+          },
+        )
     bit_fact (ConstBit v) h = tt
 
     pub bits_fact : (bs : List BitView) → list_all (is_bit nets) bs ≡ true → AllBits names size o (λ t. range_in (vectors_among nets) t) es bs

@@ -1,6 +1,6 @@
 -- Steps over connections by name.
 use Rattle.std.proofs.Common.{◌≡◌, ℕ, Bool, true, false, not, List, [], ◌∷◌, ◌++◌, map, Option, None, Some, refl, sym, ap, ◌∙◌, subst, append_assoc, arith}
-use Rattle.std.specs.Prelude.{IsTrue, codes, decimal, ◌&&◌, ◌==◌, flat_map, if◌then◌else◌}
+use Rattle.std.specs.Prelude.{codes, decimal, ◌&&◌, ◌==◌, flat_map, if◌then◌else◌}
 use Rattle.std.specs.List.{list_all}
 use Rattle.std.proofs.lemmas.Bool.{and_parts}
 use Rattle.std.proofs.lemmas.Bool.Decides.{nat_tests}
@@ -13,7 +13,6 @@ use Rattle.lp_model.specs.NetlistView.{BitView, NetBit, SelectBit, ConstBit, Con
 use Rattle.lp_verilog_tokens.specs.Lexical.{is_lead, is_inner}
 use Rattle.lp_verilog_tokens.specs.Reserved.{reserved_words}
 use Rattle.lp_verilog_grammar.specs.declared.reader.Reader.{Reader}
-use Rattle.lp_verilog_draft.specs.declared.scope.Entry.{Entry}
 use Rattle.lp_verilog_grammar.specs.declared.symbol.Symbol.{Symbol}
 use Rattle.lp_verilog_grammar.specs.declared.symbol.Symbol.TheVariants as symbols
 use Rattle.lp_verilog_tokens.specs.declared.token.Mark.TheVariants as marks
@@ -136,8 +135,8 @@ module _ (names : List (List ℕ)) (size : ℕ) (o : Outcome) (ranges : List ℕ
   connection_onward : (v : ConnectionView) (rest : List ℕ) (w : List Symbol) (t n : NameId) (done : List Connection) (c : Reader) → IsConnection c.draft.scope v → Joined rest w t n (done ++ connection_of names v ∷ []) c → Joined (name_text v.port ++ (40 ∷ (value_text ranges v.bits ++ (41 ∷ rest)))) (symbols.ConnectionName ∷ w) t n done c
   connection_onward v rest w t n done c h next = λ p s q i.
       name_onward names size o v.port (40 ∷ (value_text ranges v.bits ++ (41 ∷ rest))) (joined c (symbols.ConnectionName ∷ w) t n p done s q i) h.0.0 h.0.1 (apart_open (value_text ranges v.bits ++ (41 ∷ rest))) (λ at.
-        open_onward names size o (value_text ranges v.bits ++ (41 ∷ rest)) (joined c (symbols.Expect marks.Open ∷ symbols.NamedValue ∷ w) t n (id names v.port) done s q i) (value_starless ranges v.bits rest) (λ at2.
-          valued_onward (id names v.port) v.bits rest w t n done c h.1 next s q i))
+      open_onward names size o (value_text ranges v.bits ++ (41 ∷ rest)) (joined c (symbols.Expect marks.Open ∷ symbols.NamedValue ∷ w) t n (id names v.port) done s q i) (value_starless ranges v.bits rest) (λ at2.
+      valued_onward (id names v.port) v.bits rest w t n done c h.1 next s q i))
 
   connection_line : (v : ConnectionView) (rest : List ℕ) → connection_text ranges v ++ rest ≡ 46 ∷ (name_text v.port ++ (40 ∷ (value_text ranges v.bits ++ (41 ∷ rest))))
   connection_line v rest = ap (λ t. 46 ∷ t) (append_assoc (name_text v.port) (40 ∷ (value_text ranges v.bits ++ (41 ∷ []))) rest ∙ ap (λ t. name_text v.port ++ (40 ∷ t)) (append_assoc (value_text ranges v.bits) (41 ∷ []) rest))
@@ -151,11 +150,11 @@ module _ (names : List (List ℕ)) (size : ℕ) (o : Outcome) (ranges : List ℕ
       let others = more_connections vs rest w t n front c h.1 (subst (λ x. Joined rest (symbols.NamedMore ∷ w) t n x c) (sym all) next) in
       let one = connection_onward v tail (symbols.NamedMore ∷ w) t n done c h.0 others in
       let text : (connection_text ranges v ++ flat_map (after_comma (connection_text ranges)) vs) ++ rest ≡ 46 ∷ (name_text v.port ++ (40 ∷ (value_text ranges v.bits ++ (41 ∷ tail)))) =
-          append_assoc (connection_text ranges v) (flat_map (after_comma (connection_text ranges)) vs) rest ∙ connection_line v tail
+      append_assoc (connection_text ranges v) (flat_map (after_comma (connection_text ranges)) vs) rest ∙ connection_line v tail
       in
       λ p s q i. comma_onward names size o (32 ∷ ((connection_text ranges v ++ flat_map (after_comma (connection_text ranges)) vs) ++ rest)) _ (λ at.
-        subst (λ x. On (32 ∷ x) (joined c (symbols.Expect marks.Dot ∷ symbols.ConnectionName ∷ symbols.NamedMore ∷ w) t n p done s q i)) (sym text)
-        (blank_onward names size o (46 ∷ (name_text v.port ++ (40 ∷ (value_text ranges v.bits ++ (41 ∷ tail))))) _ (dot_onward names size o (name_text v.port ++ (40 ∷ (value_text ranges v.bits ++ (41 ∷ tail)))) _ (λ at2. one p s q i))))
+      subst (λ x. On (32 ∷ x) (joined c (symbols.Expect marks.Dot ∷ symbols.ConnectionName ∷ symbols.NamedMore ∷ w) t n p done s q i)) (sym text)
+      (blank_onward names size o (46 ∷ (name_text v.port ++ (40 ∷ (value_text ranges v.bits ++ (41 ∷ tail))))) _ (dot_onward names size o (name_text v.port ++ (40 ∷ (value_text ranges v.bits ++ (41 ∷ tail)))) _ (λ at2. one p s q i))))
 
   -- the connections of an instance, up to the parenthesis behind them
   pub connections_onward : (vs : List ConnectionView) (rest : List ℕ) (w : List Symbol) (t n : NameId) (c : Reader) → AllConnections c.draft.scope vs → Joined rest (symbols.NamedMore ∷ w) t n (map (connection_of names) vs) c → is_filled vs ≡ true → Joined (listed (connection_text ranges) vs ++ rest) (symbols.Connections ∷ w) t n [] c
@@ -165,6 +164,6 @@ module _ (names : List (List ℕ)) (size : ℕ) (o : Outcome) (ranges : List ℕ
       let others = more_connections vs rest w t n (connection_of names v ∷ []) c h.1 next in
       let one = connection_onward v tail (symbols.NamedMore ∷ w) t n [] c h.0 others in
       let text : (connection_text ranges v ++ flat_map (after_comma (connection_text ranges)) vs) ++ rest ≡ 46 ∷ (name_text v.port ++ (40 ∷ (value_text ranges v.bits ++ (41 ∷ tail)))) =
-          append_assoc (connection_text ranges v) (flat_map (after_comma (connection_text ranges)) vs) rest ∙ connection_line v tail
+      append_assoc (connection_text ranges v) (flat_map (after_comma (connection_text ranges)) vs) rest ∙ connection_line v tail
       in
       λ p s q i. subst (λ x. On x (joined c (symbols.Connections ∷ w) t n p [] s q i)) (sym text) (dot_onward names size o (name_text v.port ++ (40 ∷ (value_text ranges v.bits ++ (41 ∷ tail)))) _ (λ at. one p s q i))

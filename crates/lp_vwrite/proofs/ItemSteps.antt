@@ -1,6 +1,6 @@
 -- Steps over the items of a module: declarations, instances and assigns.
-use Rattle.std.proofs.Common.{◌≡◌, ℕ, ◌≤◌, Bool, true, false, not, List, [], ◌∷◌, ◌++◌, map, Option, None, Some, refl, sym, ap, ◌∙◌, subst, append_assoc, arith}
-use Rattle.std.specs.Prelude.{codes, decimal, ◌&&◌, nat_le, flat_map}
+use Rattle.std.proofs.Common.{◌≡◌, ℕ, ◌≤◌, Bool, true, false, List, [], ◌∷◌, ◌++◌, map, Option, None, Some, refl, sym, ap, ◌∙◌, subst, append_assoc, arith}
+use Rattle.std.specs.Prelude.{codes, decimal, nat_le}
 use Rattle.std.specs.List.{list_all}
 use Rattle.std.proofs.lemmas.Bool.{and_parts}
 use Rattle.std.proofs.lemmas.Bool.Decides.{nat_tests}
@@ -15,7 +15,6 @@ use Rattle.lp_model.specs.declared.netlist.Connections.TheVariants as lists
 use Rattle.lp_model.specs.declared.netlist.Instance.{Instance}
 use Rattle.lp_model.specs.declared.netlist.Assign.{Assign}
 use Rattle.lp_model.specs.declared.netlist.Module.{Module}
-use Rattle.lp_model.specs.declared.bits.Bit.{Bit}
 use Rattle.lp_model.specs.NetlistView.{PortView, NetView, BitView, ConnectionView, ConnectionsView, ByName, ByPosition, InstanceView, AssignView}
 use Rattle.lp_verilog_grammar.specs.declared.reader.Reader.{Reader}
 use Rattle.lp_verilog_draft.specs.declared.scope.Entry.{Entry}
@@ -31,10 +30,10 @@ use Rattle.lp_verilog_draft.specs.declared.value.Side.{Side}
 use Rattle.lp_verilog_draft.specs.declared.value.Side.TheVariants as sides
 use Rattle.lp_verilog_draft.specs.Scopes.{Entries, found, put, add_new, give_direction, give_wire, wire}
 use Rattle.lp_verilog_draft.specs.Scopes as scopes
-use Rattle.lp_verilog_draft.specs.Verdicts.{Verdict, Goes, Stops, and_then}
-use Rattle.lp_verilog_grammar.specs.Machine.{step, scoped, with_scope, begin_instance, begun_instance, declare_name}
+use Rattle.lp_verilog_draft.specs.Verdicts.{Goes, and_then}
+use Rattle.lp_verilog_grammar.specs.Machine.{scoped, with_scope, begin_instance, begun_instance, declare_name}
 use Rattle.lp_verilog.specs.Reading.{Outcome}
-use Rattle.lp_vwrite.specs.Layout.{name_text, range_text, port_line, net_line, value_text, connection_text, connections_text, instance_line, assign_line, listed}
+use Rattle.lp_vwrite.specs.Layout.{name_text, range_text, port_line, net_line, value_text, connection_text, instance_line, assign_line, listed}
 use Rattle.lp_vwrite.specs.WellFormed.{is_filled, is_range}
 use Rattle.lp_vwrite.proofs.Tokens.{is_apart, is_starless}
 use Rattle.lp_vwrite.proofs.Onward.{Then, Onward}
@@ -107,15 +106,15 @@ module _ (names : List (List ℕ)) (size : ℕ) (o : Outcome) (ranges : List ℕ
       let bounds = range_bounds r bounded in
       let behind = name_text n ++ rest in
       let text : (91 ∷ (decimal r.left ++ (58 ∷ (decimal r.right ++ (93 ∷ 32 ∷ []))))) ++ behind ≡ 91 ∷ (decimal r.left ++ (58 ∷ (decimal r.right ++ (93 ∷ 32 ∷ behind)))) =
-          ap (λ t. 91 ∷ t) (append_assoc (decimal r.left) (58 ∷ (decimal r.right ++ (93 ∷ 32 ∷ []))) behind ∙ ap (λ t. decimal r.left ++ (58 ∷ t)) (append_assoc (decimal r.right) (93 ∷ 32 ∷ []) behind))
+      ap (λ t. 91 ∷ t) (append_assoc (decimal r.left) (58 ∷ (decimal r.right ++ (93 ∷ 32 ∷ []))) behind ∙ ap (λ t. decimal r.left ++ (58 ∷ t)) (append_assoc (decimal r.right) (93 ∷ 32 ∷ []) behind))
       in
       subst (λ t. On t (declaring_in c (opener b ∷ w) form d None 0)) (sym text)
       (bracketed b (decimal r.left ++ (58 ∷ (decimal r.right ++ (93 ∷ 32 ∷ behind)))) w c form d
-        (number_onward names size o r.left (58 ∷ (decimal r.right ++ (93 ∷ 32 ∷ behind))) _ bounds.0 refl (λ at1.
-          colon_onward names size o (decimal r.right ++ (93 ∷ 32 ∷ behind)) _ (λ at2.
-            number_onward names size o r.right (93 ∷ 32 ∷ behind) _ bounds.1 refl (λ at3.
-              close_bracket_onward names size o (32 ∷ behind) _ (λ at4.
-                blank_onward names size o behind _ (name_onward names size o n rest (declaring_in c (symbols.DeclaredName ∷ w) form d (Some r) r.left) named.0 named.1 apart (λ at. next at r.left))))))))
+      (number_onward names size o r.left (58 ∷ (decimal r.right ++ (93 ∷ 32 ∷ behind))) _ bounds.0 refl (λ at1.
+      colon_onward names size o (decimal r.right ++ (93 ∷ 32 ∷ behind)) _ (λ at2.
+      number_onward names size o r.right (93 ∷ 32 ∷ behind) _ bounds.1 refl (λ at3.
+      close_bracket_onward names size o (32 ∷ behind) _ (λ at4.
+      blank_onward names size o behind _ (name_onward names size o n rest (declaring_in c (symbols.DeclaredName ∷ w) form d (Some r) r.left) named.0 named.1 apart (λ at. next at r.left))))))))
 
   -- ---- items
 
@@ -146,11 +145,11 @@ module _ (names : List (List ℕ)) (size : ℕ) (o : Outcome) (ranges : List ℕ
         let w = symbols.DeclaredMore ∷ symbols.Items ∷ symbols.Source ∷ [] in
         let f = found_some names p.name scope (done ++ (p.name, listed_entry) ∷ more) listed_entry is named.1 known (lookup_middle p.name done more listed_entry absent) in
         ranged_name true p.range p.name (59 ∷ 10 ∷ rest) w c forms.Ports p.direction bounded named (apart_semicolon (10 ∷ rest)) (λ at l.
-          let d : Declaring = record { form = forms.Ports; direction = p.direction; range = p.range; left = l } in
-          let e : Entry = record { kind = kinds.Port; direction = Some p.direction; range = p.range; fixed = true; wired = false; at = f.0 } in
-          let m = declaring_in c w forms.Ports p.direction p.range l in
-          subst (λ v. Then (On (59 ∷ 10 ∷ rest)) (scoped m v)) (sym (direct_listed d scope (id names p.name) f.0 f.1))
-          (semicolon_onward names size o (10 ∷ rest) _ (λ at2. line_onward names size o rest _ (next (put scope (id names p.name) e) (put_old names p.name scope done more listed_entry e is named.1 known_done absent) d t n q positional side s r i))))
+        let d : Declaring = record { form = forms.Ports; direction = p.direction; range = p.range; left = l } in
+        let e : Entry = record { kind = kinds.Port; direction = Some p.direction; range = p.range; fixed = true; wired = false; at = f.0 } in
+        let m = declaring_in c w forms.Ports p.direction p.range l in
+        subst (λ v. Then (On (59 ∷ 10 ∷ rest)) (scoped m v)) (sym (direct_listed d scope (id names p.name) f.0 f.1))
+        (semicolon_onward names size o (10 ∷ rest) _ (λ at2. line_onward names size o rest _ (next (put scope (id names p.name) e) (put_old names p.name scope done more listed_entry e is named.1 known_done absent) d t n q positional side s r i))))
 
     declared_text : (r : Option BitRange) (n rest : List ℕ) → (range_text r ++ (name_text n ++ codes ";\n")) ++ rest ≡ range_text r ++ (name_text n ++ (59 ∷ 10 ∷ rest))
     declared_text r n rest = append_assoc (range_text r) (name_text n ++ codes ";\n") rest ∙ ap (λ t. range_text r ++ t) (append_assoc (name_text n) (codes ";\n") rest)
@@ -162,13 +161,13 @@ module _ (names : List (List ℕ)) (size : ℕ) (o : Outcome) (ranges : List ℕ
         let behind = range_text r ++ (name_text n ++ (59 ∷ 10 ∷ rest)) in
         subst (λ x. On (32 ∷ 32 ∷ (codes "input" ++ (32 ∷ x))) m) (sym (declared_text r n rest))
         (indent_onward names size o (codes "input" ++ (32 ∷ behind)) m (input_onward names size o behind m (λ at.
-          blank_onward names size o behind _ (directed (record { name = n; direction = directions.Input; range = r }) rest done more insts assigns named bounded known known_done absent next scope is declaring t k q positional side s v i))))
+        blank_onward names size o behind _ (directed (record { name = n; direction = directions.Input; range = r }) rest done more insts assigns named bounded known known_done absent next scope is declaring t k q positional side s v i))))
     port_by directions.Output n r rest done more insts assigns named bounded known known_done absent next = λ scope is declaring t k q positional side s v i.
         let m = at_items scope insts assigns declaring t k q positional side s v i in
         let behind = range_text r ++ (name_text n ++ (59 ∷ 10 ∷ rest)) in
         subst (λ x. On (32 ∷ 32 ∷ (codes "output" ++ (32 ∷ x))) m) (sym (declared_text r n rest))
         (indent_onward names size o (codes "output" ++ (32 ∷ behind)) m (output_onward names size o behind m (λ at.
-          blank_onward names size o behind _ (directed (record { name = n; direction = directions.Output; range = r }) rest done more insts assigns named bounded known known_done absent next scope is declaring t k q positional side s v i))))
+        blank_onward names size o behind _ (directed (record { name = n; direction = directions.Output; range = r }) rest done more insts assigns named bounded known known_done absent next scope is declaring t k q positional side s v i))))
 
     -- the declaration of a port
     pub port_onward : (p : PortView) (rest : List ℕ) (done more : Declared) (insts : List Instance) (assigns : List Assign) → Named names size o ranges p.name → is_range p.range ≡ true → all_known names (names_in (done ++ (p.name, listed_entry) ∷ more)) ≡ true → all_known names (names_in done) ≡ true → has_text p.name (names_in done) ≡ false
@@ -185,10 +184,10 @@ module _ (names : List (List ℕ)) (size : ℕ) (o : Outcome) (ranges : List ℕ
         let none = found_none names v.name scope done is named.1 known absent in
         subst (λ x. On (32 ∷ 32 ∷ (codes "wire" ++ (32 ∷ x))) m) (sym (declared_text v.range v.name rest))
         (indent_onward names size o (codes "wire" ++ (32 ∷ behind)) m (wire_onward names size o behind m (λ at0.
-          blank_onward names size o behind _ (ranged_name false v.range v.name (59 ∷ 10 ∷ rest) w m forms.Wires directions.Input bounded named (apart_semicolon (10 ∷ rest)) (λ at l.
-            let d : Declaring = record { form = forms.Wires; direction = directions.Input; range = v.range; left = l } in
-            subst (λ x. Then (On (59 ∷ 10 ∷ rest)) (scoped (declaring_in m w forms.Wires directions.Input v.range l) x)) (sym (wire_new d at scope (id names v.name) none))
-            (semicolon_onward names size o (10 ∷ rest) _ (λ at2. line_onward names size o rest _ (next (put scope (id names v.name) (wire v.range at)) (put_new names v.name scope done (wire v.range at) is named.1 known absent) d t k p positional side s q i))))))))
+        blank_onward names size o behind _ (ranged_name false v.range v.name (59 ∷ 10 ∷ rest) w m forms.Wires directions.Input bounded named (apart_semicolon (10 ∷ rest)) (λ at l.
+        let d : Declaring = record { form = forms.Wires; direction = directions.Input; range = v.range; left = l } in
+        subst (λ x. Then (On (59 ∷ 10 ∷ rest)) (scoped (declaring_in m w forms.Wires directions.Input v.range l) x)) (sym (wire_new d at scope (id names v.name) none))
+        (semicolon_onward names size o (10 ∷ rest) _ (λ at2. line_onward names size o rest _ (next (put scope (id names v.name) (wire v.range at)) (put_new names v.name scope done (wire v.range at) is named.1 known absent) d t k p positional side s q i))))))))
 
     -- ---- instances
 
@@ -214,9 +213,9 @@ module _ (names : List (List ℕ)) (size : ℕ) (o : Outcome) (ranges : List ℕ
 
     instance_text : (target n : List ℕ) (vs : List ConnectionView) (rest : List ℕ) → instance_line ranges (record { name = n; target = target; connections = ByName vs }) ++ rest ≡ 32 ∷ 32 ∷ (name_text target ++ (32 ∷ (name_text n ++ (32 ∷ 40 ∷ (listed (connection_text ranges) vs ++ (41 ∷ 59 ∷ 10 ∷ rest))))))
     instance_text target n vs rest = ap (λ x. 32 ∷ 32 ∷ x) (
-      append_assoc (name_text target) (32 ∷ (name_text n ++ (32 ∷ 40 ∷ (listed (connection_text ranges) vs ++ (41 ∷ 59 ∷ 10 ∷ []))))) rest
-      ∙ ap (λ x. name_text target ++ (32 ∷ x)) (append_assoc (name_text n) (32 ∷ 40 ∷ (listed (connection_text ranges) vs ++ (41 ∷ 59 ∷ 10 ∷ []))) rest ∙ ap (λ x. name_text n ++ (32 ∷ 40 ∷ x)) (append_assoc (listed (connection_text ranges) vs) (41 ∷ 59 ∷ 10 ∷ []) rest))
-    )
+        append_assoc (name_text target) (32 ∷ (name_text n ++ (32 ∷ 40 ∷ (listed (connection_text ranges) vs ++ (41 ∷ 59 ∷ 10 ∷ []))))) rest
+        ∙ ap (λ x. name_text target ++ (32 ∷ x)) (append_assoc (name_text n) (32 ∷ 40 ∷ (listed (connection_text ranges) vs ++ (41 ∷ 59 ∷ 10 ∷ []))) rest ∙ ap (λ x. name_text n ++ (32 ∷ 40 ∷ x)) (append_assoc (listed (connection_text ranges) vs) (41 ∷ 59 ∷ 10 ∷ []) rest))
+        )
 
     -- an instance with connections by name
     pub instance_onward : (target n : List ℕ) (vs : List ConnectionView) (rest : List ℕ) (done : Declared) (insts : List Instance) (assigns : List Assign) → Named names size o ranges target → Named names size o ranges n → all_known names (names_in done) ≡ true → has_text n (names_in done) ≡ false → ((es : Entries) → plain es ≡ keyed names (done ++ (n, instance_entry) ∷ []) → AllConnections names size o ranges es vs)
@@ -228,12 +227,12 @@ module _ (names : List (List ℕ)) (size : ℕ) (o : Outcome) (ranges : List ℕ
         let none = found_none names n scope done is named.1 known absent in
         subst (λ x. On x m) (sym (instance_text target n vs rest))
         (indent_onward names size o (name_text target ++ (32 ∷ (name_text n ++ (32 ∷ 40 ∷ conns)))) m
-          (name_onward names size o target (32 ∷ (name_text n ++ (32 ∷ 40 ∷ conns))) m targeted.0 targeted.1 (apart_blank (name_text n ++ (32 ∷ 40 ∷ conns))) (λ at1.
-            blank_onward names size o (name_text n ++ (32 ∷ 40 ∷ conns)) _
-            (name_onward names size o n (32 ∷ 40 ∷ conns) (record (at_items scope insts assigns declaring (id names target) k p positional side s q i) { waiting = symbols.InstanceName ∷ symbols.InstanceMore ∷ symbols.Items ∷ symbols.Source ∷ [] }) named.0 named.1 (apart_blank (40 ∷ conns)) (λ at.
-              subst (Then (On (32 ∷ 40 ∷ conns))) (sym (begin_new (record (at_items scope insts assigns declaring (id names target) k p positional side s q i) { waiting = symbols.Expect marks.Open ∷ symbols.Connections ∷ symbols.InstanceMore ∷ symbols.Items ∷ symbols.Source ∷ [] }) at (id names n) none))
-              (blank_onward names size o (40 ∷ conns) _ (open_onward names size o conns _ (listed_starless vs (59 ∷ 10 ∷ rest)) (λ at2.
-                listed_onward vs rest d insts assigns (id names target) (id names n) all next (put scope (id names n) (scopes.instance_entry at)) (put_new names n scope done (scopes.instance_entry at) is named.1 known absent) declaring p s q i)))))))) 
+        (name_onward names size o target (32 ∷ (name_text n ++ (32 ∷ 40 ∷ conns))) m targeted.0 targeted.1 (apart_blank (name_text n ++ (32 ∷ 40 ∷ conns))) (λ at1.
+        blank_onward names size o (name_text n ++ (32 ∷ 40 ∷ conns)) _
+        (name_onward names size o n (32 ∷ 40 ∷ conns) (record (at_items scope insts assigns declaring (id names target) k p positional side s q i) { waiting = symbols.InstanceName ∷ symbols.InstanceMore ∷ symbols.Items ∷ symbols.Source ∷ [] }) named.0 named.1 (apart_blank (40 ∷ conns)) (λ at.
+        subst (Then (On (32 ∷ 40 ∷ conns))) (sym (begin_new (record (at_items scope insts assigns declaring (id names target) k p positional side s q i) { waiting = symbols.Expect marks.Open ∷ symbols.Connections ∷ symbols.InstanceMore ∷ symbols.Items ∷ symbols.Source ∷ [] }) at (id names n) none))
+        (blank_onward names size o (40 ∷ conns) _ (open_onward names size o conns _ (listed_starless vs (59 ∷ 10 ∷ rest)) (λ at2.
+        listed_onward vs rest d insts assigns (id names target) (id names n) all next (put scope (id names n) (scopes.instance_entry at)) (put_new names n scope done (scopes.instance_entry at) is named.1 known absent) declaring p s q i))))))))
 
     -- ---- assigns
 
@@ -256,9 +255,9 @@ module _ (names : List (List ℕ)) (size : ℕ) (o : Outcome) (ranges : List ℕ
         let bound : Reader = record m { left = map (bit_of names) a.left } in
         subst (λ x. On x m) (sym (assign_text left right rest))
         (indent_onward names size o (codes "assign" ++ (32 ∷ (left ++ (32 ∷ 61 ∷ 32 ∷ ending)))) m (assign_onward names size o (left ++ (32 ∷ 61 ∷ 32 ∷ ending)) m (λ at.
-          blank_onward names size o (left ++ (32 ∷ 61 ∷ 32 ∷ ending)) _
-          (value_onward names size o ranges false a.left (32 ∷ 61 ∷ 32 ∷ ending) (symbols.AssignSign ∷ symbols.Value ∷ w) sides.Left [] m left_filled bits.0 allowed (apart_blank (61 ∷ 32 ∷ ending)) (equals_settles names size o ranges (32 ∷ ending) (symbols.Value ∷ w)) (λ s1 q1 i1.
-            blank_onward names size o (61 ∷ 32 ∷ ending) _ (equals_onward names size o (32 ∷ ending) _ (λ at1.
-              blank_onward names size o ending _
-              (value_onward names size o ranges false a.right (59 ∷ 10 ∷ rest) w sides.Right [] bound right_filled bits.1 (all_right a.right) (apart_semicolon (10 ∷ rest)) (semicolon_settles names size o ranges (10 ∷ rest) (symbols.Items ∷ symbols.Source ∷ [])) (λ s2 q2 i2.
-                semicolon_onward names size o (10 ∷ rest) _ (λ at2. line_onward names size o rest _ (next scope is declaring t k p positional sides.Right s2 q2 i2))) s1 q1 i1)))) s q i))))
+        blank_onward names size o (left ++ (32 ∷ 61 ∷ 32 ∷ ending)) _
+        (value_onward names size o ranges false a.left (32 ∷ 61 ∷ 32 ∷ ending) (symbols.AssignSign ∷ symbols.Value ∷ w) sides.Left [] m left_filled bits.0 allowed (apart_blank (61 ∷ 32 ∷ ending)) (equals_settles names size o ranges (32 ∷ ending) (symbols.Value ∷ w)) (λ s1 q1 i1.
+        blank_onward names size o (61 ∷ 32 ∷ ending) _ (equals_onward names size o (32 ∷ ending) _ (λ at1.
+        blank_onward names size o ending _
+        (value_onward names size o ranges false a.right (59 ∷ 10 ∷ rest) w sides.Right [] bound right_filled bits.1 (all_right a.right) (apart_semicolon (10 ∷ rest)) (semicolon_settles names size o ranges (10 ∷ rest) (symbols.Items ∷ symbols.Source ∷ [])) (λ s2 q2 i2.
+        semicolon_onward names size o (10 ∷ rest) _ (λ at2. line_onward names size o rest _ (next scope is declaring t k p positional sides.Right s2 q2 i2))) s1 q1 i1)))) s q i))))

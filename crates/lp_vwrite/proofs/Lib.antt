@@ -11,3 +11,4 @@ pub mod Facts
 pub mod ModuleSteps
 pub mod Bodies
 pub mod WholeText
+pub mod ReadBack

@@ -1,18 +1,15 @@
 -- Steps over a module: its header, its items one after another, and its end.
-use Rattle.std.proofs.Common.{◌≡◌, ℕ, ◌≤◌, Bool, true, false, not, List, [], ◌∷◌, ◌++◌, map, Option, None, Some, refl, sym, ap, ◌∙◌, subst, append_assoc}
-use Rattle.std.specs.Prelude.{codes, ◌&&◌, nat_eq, flat_map, if◌then◌else◌}
+use Rattle.std.proofs.Common.{◌≡◌, ℕ, Bool, true, false, List, [], ◌∷◌, ◌++◌, map, Option, None, refl, sym, ap, ◌∙◌, subst, append_assoc}
+use Rattle.std.specs.Prelude.{codes, nat_eq, flat_map}
 use Rattle.std.specs.List.{list_all, list_any}
 use Rattle.std.proofs.lemmas.Bool.{and_parts, and_from}
 use Rattle.std.proofs.lemmas.List.{append-nil, map-append}
 use Rattle.std.proofs.lemmas.List.Folds.{list_all-append}
-use Rattle.indexmap.specs.IndexSet.{insert_key}
-use Rattle.lp_text.specs.Texts.{has_text, same_text, distinct, distinct-append_left}
+use Rattle.lp_text.specs.Texts.{has_text, distinct}
 use Rattle.lp_text.specs.declared.names.NameId.{NameId}
 use Rattle.lp_model.specs.declared.netlist.BitRange.{BitRange}
-use Rattle.lp_model.specs.declared.netlist.Instance.{Instance}
-use Rattle.lp_model.specs.declared.netlist.Assign.{Assign}
 use Rattle.lp_model.specs.declared.netlist.Module.{Module}
-use Rattle.lp_model.specs.NetlistView.{PortView, NetView, ConnectionsView, ByName, ByPosition, InstanceView, AssignView, ModuleView}
+use Rattle.lp_model.specs.NetlistView.{PortView, ModuleView}
 use Rattle.lp_verilog_grammar.specs.declared.reader.Reader.{Reader}
 use Rattle.lp_verilog_draft.specs.declared.draft.Draft.{Draft}
 use Rattle.lp_verilog_draft.specs.declared.declaring.Declaring.{Declaring}
@@ -23,8 +20,8 @@ use Rattle.lp_verilog_tokens.specs.declared.token.Mark.TheVariants as marks
 use Rattle.lp_verilog_draft.specs.declared.value.Side.{Side}
 use Rattle.lp_verilog_draft.specs.Scopes.{Entries, found, put, add_new, listed}
 use Rattle.lp_verilog_draft.specs.Steps as draft
-use Rattle.lp_verilog_draft.specs.Verdicts.{Verdict, Goes, Stops, and_then}
-use Rattle.lp_verilog_grammar.specs.Machine.{step, scoped, with_scope, begin_module, list_port}
+use Rattle.lp_verilog_draft.specs.Verdicts.{Goes}
+use Rattle.lp_verilog_grammar.specs.Machine.{scoped, with_scope, begin_module, list_port}
 use Rattle.lp_verilog.specs.Reading.{Outcome}
 use Rattle.lp_vwrite.specs.Layout.{name_text, port_line, net_line, instance_line, assign_line, header_line, after_comma}
 use Rattle.lp_vwrite.specs.Layout as layouts
@@ -89,12 +86,12 @@ module _ (names : List (List ℕ)) (size : ℕ) (o : Outcome) (ranges : List ℕ
     name_listed : (b : Bool) (x rest : List ℕ) (w : List Symbol) (d : Declared) → Named names size o ranges x → all_known names (names_in d) ≡ true → has_text x (names_in d) ≡ false → is_apart rest ≡ true → Listing rest (symbols.PortsMore ∷ w) (d ++ (x, listed_entry) ∷ []) → Listing (name_text x ++ rest) (opening b w) d
     name_listed true x rest w d named known absent apart next = λ scope is declaring t n p positional side s q i.
         name_onward names size o x rest (at_header (symbols.Ports ∷ w) scope declaring t n p positional side s q i) named.0 named.1 apart (λ at.
-          subst (Then (On rest)) (sym (list_new (at_header (symbols.PortsMore ∷ w) scope declaring t n p positional side s q i) at (id names x) (found_none names x scope d is named.1 known absent)))
-          (next (put scope (id names x) (listed at)) (put_new names x scope d (listed at) is named.1 known absent) declaring t n p positional side s q i))
+        subst (Then (On rest)) (sym (list_new (at_header (symbols.PortsMore ∷ w) scope declaring t n p positional side s q i) at (id names x) (found_none names x scope d is named.1 known absent)))
+        (next (put scope (id names x) (listed at)) (put_new names x scope d (listed at) is named.1 known absent) declaring t n p positional side s q i))
     name_listed false x rest w d named known absent apart next = λ scope is declaring t n p positional side s q i.
         name_onward names size o x rest (at_header (symbols.PortName ∷ symbols.PortsMore ∷ w) scope declaring t n p positional side s q i) named.0 named.1 apart (λ at.
-          subst (Then (On rest)) (sym (list_new (at_header (symbols.PortsMore ∷ w) scope declaring t n p positional side s q i) at (id names x) (found_none names x scope d is named.1 known absent)))
-          (next (put scope (id names x) (listed at)) (put_new names x scope d (listed at) is named.1 known absent) declaring t n p positional side s q i))
+        subst (Then (On rest)) (sym (list_new (at_header (symbols.PortsMore ∷ w) scope declaring t n p positional side s q i) at (id names x) (found_none names x scope d is named.1 known absent)))
+        (next (put scope (id names x) (listed at)) (put_new names x scope d (listed at) is named.1 known absent) declaring t n p positional side s q i))
 
     abbrev more_text : List PortView → List ℕ
     more_text ps = flat_map (after_comma (λ p. name_text p.name)) ps
@@ -116,9 +113,9 @@ module _ (names : List (List ℕ)) (size : ℕ) (o : Outcome) (ranges : List ℕ
         let one = name_listed false p.name (more_text ps ++ (41 ∷ rest)) w d (g.0, k.0) known_d absent (more_apart ps rest) others in
         let text : (name_text p.name ++ more_text ps) ++ (41 ∷ rest) ≡ name_text p.name ++ (more_text ps ++ (41 ∷ rest)) = append_assoc (name_text p.name) (more_text ps) (41 ∷ rest) in
         λ scope is declaring t n q positional side s r i.
-          comma_onward names size o (32 ∷ ((name_text p.name ++ more_text ps) ++ (41 ∷ rest))) _ (λ at.
-            subst (λ x. On (32 ∷ x) (at_header (symbols.PortName ∷ symbols.PortsMore ∷ w) scope declaring t n q positional side s r i)) (sym text)
-            (blank_onward names size o (name_text p.name ++ (more_text ps ++ (41 ∷ rest))) _ (one scope is declaring t n q positional side s r i)))
+        comma_onward names size o (32 ∷ ((name_text p.name ++ more_text ps) ++ (41 ∷ rest))) _ (λ at.
+        subst (λ x. On (32 ∷ x) (at_header (symbols.PortName ∷ symbols.PortsMore ∷ w) scope declaring t n q positional side s r i)) (sym text)
+        (blank_onward names size o (name_text p.name ++ (more_text ps ++ (41 ∷ rest))) _ (one scope is declaring t n q positional side s r i)))
 
     -- `)` and `;` behind the names of the ports
     closed_header : (b : Bool) (rest : List ℕ) (d : Declared) → Ready names size o ranges modules taken name rest d [] [] → Listing (41 ∷ 59 ∷ 10 ∷ rest) (closing b ∷ symbols.Expect marks.Semicolon ∷ symbols.Items ∷ symbols.Source ∷ []) d
@@ -174,8 +171,8 @@ module _ (names : List (List ℕ)) (size : ℕ) (o : Outcome) (ranges : List ℕ
       let free : list_any (nat_eq (id names m.name).0) taken ≡ false = taken_same m.name done named.1 known ∙ absent in
       subst (λ x. On x here) (sym (header_text m rest))
       (module_onward names size o (name_text m.name ++ (32 ∷ 40 ∷ ports)) here (λ at0.
-        blank_onward names size o (name_text m.name ++ (32 ∷ 40 ∷ ports)) _
-        (name_onward names size o m.name (32 ∷ 40 ∷ ports) (record here { waiting = symbols.ModuleName ∷ symbols.Header ∷ symbols.Items ∷ symbols.Source ∷ [] }) named.0 named.1 (apart_blank (40 ∷ ports)) (λ at.
-          subst (Then (On (32 ∷ 40 ∷ ports))) (sym (begin_new (record here { waiting = symbols.Header ∷ symbols.Items ∷ symbols.Source ∷ [] }) (id names m.name) free))
-          (blank_onward names size o (40 ∷ ports) _ (open_onward names size o ports _ (names_starless modules (taken ++ (id names m.name).0 ∷ []) (id names m.name) m.ports (59 ∷ 10 ∷ rest)) (λ at2.
-            ports_listed modules (taken ++ (id names m.name).0 ∷ []) (id names m.name) m.ports rest good known_ports apart next [] refl declaring t n p positional side s q i)))))))
+      blank_onward names size o (name_text m.name ++ (32 ∷ 40 ∷ ports)) _
+      (name_onward names size o m.name (32 ∷ 40 ∷ ports) (record here { waiting = symbols.ModuleName ∷ symbols.Header ∷ symbols.Items ∷ symbols.Source ∷ [] }) named.0 named.1 (apart_blank (40 ∷ ports)) (λ at.
+      subst (Then (On (32 ∷ 40 ∷ ports))) (sym (begin_new (record here { waiting = symbols.Header ∷ symbols.Items ∷ symbols.Source ∷ [] }) (id names m.name) free))
+      (blank_onward names size o (40 ∷ ports) _ (open_onward names size o ports _ (names_starless modules (taken ++ (id names m.name).0 ∷ []) (id names m.name) m.ports (59 ∷ 10 ∷ rest)) (λ at2.
+      ports_listed modules (taken ++ (id names m.name).0 ∷ []) (id names m.name) m.ports rest good known_ports apart next [] refl declaring t n p positional side s q i)))))))

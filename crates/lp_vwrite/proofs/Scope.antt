@@ -1,18 +1,17 @@
 -- What a module declares, as the reader keeps it: over numbers of names, and without the places of the names.
-use Rattle.std.proofs.Common.{◌≡◌, ℕ, zero, suc, ◌+◌, ◌<◌, ◌≤◌, Bool, true, false, not, cond, List, [], ◌∷◌, ◌++◌, map, length, Option, None, Some, refl, sym, ap, ◌∙◌, subst, append_assoc, arith, inl, inr}
-use Rattle.std.specs.Prelude.{IsTrue, ◌&&◌, ◌||◌, nat_eq, is_some, unwrap_or, if◌then◌else◌}
+use Rattle.std.proofs.Common.{◌≡◌, ℕ, Bool, true, false, cond, List, [], ◌∷◌, ◌++◌, map, Option, None, Some, refl, sym, ap, ◌∙◌, subst, arith}
+use Rattle.std.specs.Prelude.{◌&&◌, ◌||◌, nat_eq, is_some, unwrap_or, if◌then◌else◌}
 use Rattle.std.specs.Option.{option_map}
 use Rattle.std.specs.List.{list_all}
 use Rattle.std.specs.Map.{lookup}
-use Rattle.std.proofs.lemmas.Bool.{and_parts, cases_Bool, true≢false}
+use Rattle.std.proofs.lemmas.Bool.{and_parts}
 use Rattle.std.proofs.lemmas.Bool.Decides.{nat_tests}
 use Rattle.indexmap.specs.IndexMap.{insert_entry}
-use Rattle.lp_text.specs.Texts.{same_text, same_text-true, true-same_text, same_text_comm, has_text, has_text-append, place_of, place_of-Some, is_some-place_of, text_at, distinct, distinct-repeated}
-use Rattle.lp_text.specs.declared.names.NameId.{NameId}
+use Rattle.lp_text.specs.Texts.{same_text, same_text-true, true-same_text, has_text, place_of, place_of-Some, is_some-place_of, text_at, distinct, distinct-repeated}
 use Rattle.lp_model.specs.declared.netlist.BitRange.{BitRange}
 use Rattle.lp_model.specs.declared.netlist.Port.{Port}
 use Rattle.lp_model.specs.declared.netlist.NetDecl.{NetDecl}
-use Rattle.lp_model.specs.NetlistView.{PortView, NetView, InstanceView}
+use Rattle.lp_model.specs.NetlistView.{PortView, NetView}
 use Rattle.lp_verilog_draft.specs.declared.scope.Kind.TheVariants as kinds
 use Rattle.lp_verilog_draft.specs.declared.scope.Entry.{Entry}
 use Rattle.lp_verilog_draft.specs.Scopes.{Entries, found, put, ports_of, nets_of, port_of, net_of, lacking_of, lacks_direction, with_some}

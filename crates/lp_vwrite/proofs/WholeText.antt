@@ -1,13 +1,11 @@
 -- What is written of well-formed modules reads back as these modules.
-use Rattle.std.proofs.Common.{◌≡◌, ℕ, suc, ◌+◌, ◌≤◌, Bool, true, false, not, List, [], ◌∷◌, ◌++◌, map, length, Option, None, Some, refl, sym, ap, ◌∙◌, subst, append_assoc, arith}
-use Rattle.std.specs.Prelude.{IsTrue, codes, ◌&&◌, ◌||◌, flat_map, if◌then◌else◌}
+use Rattle.std.proofs.Common.{◌≡◌, ℕ, true, false, List, [], ◌∷◌, ◌++◌, map, refl, sym, ap, ◌∙◌, subst, append_assoc}
+use Rattle.std.specs.Prelude.{codes, ◌&&◌, flat_map}
 use Rattle.std.specs.List.{list_all}
 use Rattle.std.proofs.lemmas.Bool.{and_parts, and_from}
 use Rattle.std.proofs.lemmas.List.{append-nil, map-append}
 use Rattle.std.proofs.lemmas.List.Folds.{list_all-append}
-use Rattle.lp_text.specs.Texts.{has_text, has_text-append, distinct, distinct-append_left, distinct-append_right}
-use Rattle.lp_text.specs.declared.names.NameId.{NameId}
-use Rattle.lp_model.specs.declared.netlist.BitRange.{BitRange}
+use Rattle.lp_text.specs.Texts.{has_text, distinct, distinct-append_left}
 use Rattle.lp_model.specs.declared.netlist.Module.{Module}
 use Rattle.lp_model.specs.NetlistView.{PortView, NetView, InstanceView, ModuleView}
 use Rattle.lp_verilog.specs.Reading.{Outcome}
@@ -16,9 +14,9 @@ use Rattle.lp_vwrite.specs.WellFormed.{is_name, is_net, is_instance, is_assign, 
 use Rattle.lp_vwrite.proofs.Parts.{id}
 use Rattle.lp_vwrite.proofs.Scope.{names_in, all_known}
 use Rattle.lp_vwrite.proofs.ItemSteps.{Ready, instance_of, assign_of}
-use Rattle.lp_vwrite.proofs.ModuleSteps.{listed_ports, port_names, Between, header_onward}
+use Rattle.lp_vwrite.proofs.ModuleSteps.{port_names, Between, header_onward}
 use Rattle.lp_vwrite.proofs.Facts.{Nets}
-use Rattle.lp_vwrite.proofs.Bodies.{port_nets, net_nets, port_of, net_of, module_of, module_texts, instance_texts, net_names, instance_names, declared_ports, declared_nets, declared_instances, ports_lines, nets_lines, instances_lines, assigns_lines, ended_module, names_of_ports, names_of_nets, names_of_instances, port_names_good}
+use Rattle.lp_vwrite.proofs.Bodies.{port_nets, net_nets, module_of, module_texts, instance_texts, net_names, instance_names, declared_ports, declared_nets, declared_instances, ports_lines, nets_lines, instances_lines, assigns_lines, ended_module, names_of_ports, names_of_nets, names_of_instances, port_names_good}
 
 abbrev texts_of : Nets → List (List ℕ)
 texts_of nets = map (λ n. n.0) nets
@@ -58,8 +56,16 @@ module _ (names : List (List ℕ)) (size : ℕ) (o : Outcome) where
       ∙ ap (λ t. n ++ t) (append_assoc i (a ++ end) rest
       ∙ ap (λ t. i ++ t) (append_assoc a end rest))))
 
+  -- the names of the declared nets are known
+  pub declared_known : (m : ModuleView) → all_known names (module_texts m) ≡ true → list_all (λ n. has_text n.0 names) (declared m) ≡ true
+  declared_known m known =
+      let k0 = and_parts (has_text m.name names) (all_known names (port_names m.ports ++ (net_names m.nets ++ flat_map instance_texts m.instances))) known in
+      let k1 = and_parts (all_known names (port_names m.ports)) (all_known names (net_names m.nets ++ flat_map instance_texts m.instances)) (sym (list_all-append (λ t. has_text t names) (port_names m.ports) (net_names m.nets ++ flat_map instance_texts m.instances)) ∙ k0.1) in
+      let k2 = and_parts (all_known names (net_names m.nets)) (all_known names (flat_map instance_texts m.instances)) (sym (list_all-append (λ t. has_text t names) (net_names m.nets) (flat_map instance_texts m.instances)) ∙ k1.1) in
+      known_pairs names (declared m) ∙ ap (all_known names) (names_of_declared m) ∙ list_all-append (λ t. has_text t names) (port_names m.ports) (net_names m.nets) ∙ and_from (all_known names (port_names m.ports)) (all_known names (net_names m.nets)) k1.0 k2.0
+
   -- one module
-  module_steps : (m : ModuleView) (rest : List ℕ) (modules : List Module) (done : List (List ℕ)) → is_module m ≡ true → all_known names (module_texts m) ≡ true → all_known names done ≡ true → has_text m.name done ≡ false
+  pub module_steps : (m : ModuleView) (rest : List ℕ) (modules : List Module) (done : List (List ℕ)) → is_module m ≡ true → all_known names (module_texts m) ≡ true → all_known names done ≡ true → has_text m.name done ≡ false
       → Between names size o (range_of m) rest (modules ++ module_of names m ∷ []) (map (λ x. (id names x).0) done ++ (id names m.name).0 ∷ []) → Between names size o (range_of m) (module_text m ++ rest) modules (map (λ x. (id names x).0) done)
   module_steps m rest modules done h known known_done absent next =
       let g0 = and_parts (is_name m.name) _ h in
@@ -70,7 +76,7 @@ module _ (names : List (List ℕ)) (size : ℕ) (o : Outcome) where
       let k0 = and_parts (has_text m.name names) (all_known names (port_names m.ports ++ (net_names m.nets ++ flat_map instance_texts m.instances))) known in
       let k1 = and_parts (all_known names (port_names m.ports)) (all_known names (net_names m.nets ++ flat_map instance_texts m.instances)) (sym (list_all-append (λ t. has_text t names) (port_names m.ports) (net_names m.nets ++ flat_map instance_texts m.instances)) ∙ k0.1) in
       let k2 = and_parts (all_known names (net_names m.nets)) (all_known names (flat_map instance_texts m.instances)) (sym (list_all-append (λ t. has_text t names) (net_names m.nets) (flat_map instance_texts m.instances)) ∙ k1.1) in
-      let known_declared : list_all (λ n. has_text n.0 names) (declared m) ≡ true = known_pairs names (declared m) ∙ ap (all_known names) (names_of_declared m) ∙ list_all-append (λ t. has_text t names) (port_names m.ports) (net_names m.nets) ∙ and_from (all_known names (port_names m.ports)) (all_known names (net_names m.nets)) k1.0 k2.0 in
+      let known_declared = declared_known m known in
       let apart : distinct ((port_names m.ports ++ net_names m.nets) ++ instance_names m.instances) ≡ true = ap (λ x. distinct (x ++ instance_names m.instances)) (sym (names_of_declared m)) ∙ g2.0 in
       let apart_nets : distinct (port_names m.ports ++ net_names m.nets) ≡ true = distinct-append_left (port_names m.ports ++ net_names m.nets) (instance_names m.instances) apart in
       let apart_ports : distinct (port_names m.ports) ≡ true = distinct-append_left (port_names m.ports) (net_names m.nets) apart_nets in
