@@ -5,3 +5,10 @@ pub mod Onward
 pub mod Parts
 pub mod Values
 pub mod Scope
+pub mod Instances
+pub mod ItemSteps
+pub mod Facts
+pub mod ModuleSteps
+pub mod Bodies
+pub mod WholeText
+pub mod ReadBack

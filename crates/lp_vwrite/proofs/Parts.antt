@@ -1,13 +1,13 @@
 -- Steps over the parts of a written text: names, marks, reserved words, numbers and blanks.
-use Rattle.std.proofs.Common.{◌≡◌, ℕ, ◌≤◌, Bool, true, false, not, List, [], ◌∷◌, ◌++◌, Option, None, Some, refl, sym, ap, ◌∙◌, subst, append_assoc}
-use Rattle.std.specs.Prelude.{IsTrue, codes, decimal, ◌&&◌, unwrap_or, if◌then◌else◌}
+use Rattle.std.proofs.Common.{◌≡◌, ℕ, ◌≤◌, Bool, true, false, not, List, [], ◌∷◌, ◌++◌, Some, refl, sym, ap, ◌∙◌, subst, append_assoc}
+use Rattle.std.specs.Prelude.{codes, decimal, ◌&&◌, unwrap_or, if◌then◌else◌}
 use Rattle.std.specs.List.{list_all}
 use Rattle.std.proofs.lemmas.Bool.{and_parts}
 use Rattle.lp_text.specs.Texts.{has_text, place_of}
 use Rattle.lp_text.specs.declared.names.NameId.{NameId}
-use Rattle.lp_verilog_tokens.specs.Lexical.{is_blank, is_lead, is_inner, is_visible}
+use Rattle.lp_verilog_tokens.specs.Lexical.{is_blank, is_lead, is_inner}
 use Rattle.lp_verilog_tokens.specs.Reserved.{reserved_words}
-use Rattle.lp_verilog_tokens.specs.Cutting.{Lexeme, Named, Plain, word_lexeme}
+use Rattle.lp_verilog_tokens.specs.Cutting.{Named, Plain, word_lexeme}
 use Rattle.lp_verilog_grammar.specs.declared.reader.Reader.{Reader}
 use Rattle.lp_verilog_tokens.specs.declared.token.Token.TheVariants as tokens
 use Rattle.lp_verilog_tokens.specs.declared.token.Mark.TheVariants as marks

@@ -1,18 +1,17 @@
 -- What a module declares, as the reader keeps it: over numbers of names, and without the places of the names.
-use Rattle.std.proofs.Common.{◌≡◌, ℕ, zero, suc, ◌+◌, ◌<◌, ◌≤◌, Bool, true, false, not, cond, List, [], ◌∷◌, ◌++◌, map, length, Option, None, Some, refl, sym, ap, ◌∙◌, subst, append_assoc, arith, inl, inr}
-use Rattle.std.specs.Prelude.{IsTrue, ◌&&◌, ◌||◌, nat_eq, is_some, unwrap_or, if◌then◌else◌}
+use Rattle.std.proofs.Common.{◌≡◌, ℕ, Bool, true, false, cond, List, [], ◌∷◌, ◌++◌, map, Option, None, Some, refl, sym, ap, ◌∙◌, subst, arith}
+use Rattle.std.specs.Prelude.{◌&&◌, ◌||◌, nat_eq, is_some, unwrap_or, if◌then◌else◌}
 use Rattle.std.specs.Option.{option_map}
 use Rattle.std.specs.List.{list_all}
 use Rattle.std.specs.Map.{lookup}
-use Rattle.std.proofs.lemmas.Bool.{and_parts, cases_Bool, true≢false}
+use Rattle.std.proofs.lemmas.Bool.{and_parts}
 use Rattle.std.proofs.lemmas.Bool.Decides.{nat_tests}
 use Rattle.indexmap.specs.IndexMap.{insert_entry}
-use Rattle.lp_text.specs.Texts.{same_text, same_text-true, true-same_text, same_text_comm, has_text, has_text-append, place_of, place_of-Some, is_some-place_of, text_at, distinct, distinct-repeated}
-use Rattle.lp_text.specs.declared.names.NameId.{NameId}
+use Rattle.lp_text.specs.Texts.{same_text, same_text-true, true-same_text, has_text, place_of, place_of-Some, is_some-place_of, text_at, distinct, distinct-repeated}
 use Rattle.lp_model.specs.declared.netlist.BitRange.{BitRange}
 use Rattle.lp_model.specs.declared.netlist.Port.{Port}
 use Rattle.lp_model.specs.declared.netlist.NetDecl.{NetDecl}
-use Rattle.lp_model.specs.NetlistView.{PortView, NetView, InstanceView}
+use Rattle.lp_model.specs.NetlistView.{PortView, NetView}
 use Rattle.lp_verilog_draft.specs.declared.scope.Kind.TheVariants as kinds
 use Rattle.lp_verilog_draft.specs.declared.scope.Entry.{Entry}
 use Rattle.lp_verilog_draft.specs.Scopes.{Entries, found, put, ports_of, nets_of, port_of, net_of, lacking_of, lacks_direction, with_some}
@@ -62,15 +61,15 @@ plain-insert (e ∷ es) k v = by (nat_eq k e.0) (plain-insert es k v)
     by true h = refl
     by false h = ap (λ (t : Entries). (e.0, erased e.1) ∷ t) h
 
-ports-plain : (es : Entries) → ports_of (plain es) ≡ ports_of es
+pub ports-plain : (es : Entries) → ports_of (plain es) ≡ ports_of es
 ports-plain [] = refl
 ports-plain (e ∷ es) = ap (λ (t : List Port). with_some (port_of e.0 e.1) t) (ports-plain es)
 
-nets-plain : (es : Entries) → nets_of (plain es) ≡ nets_of es
+pub nets-plain : (es : Entries) → nets_of (plain es) ≡ nets_of es
 nets-plain [] = refl
 nets-plain (e ∷ es) = ap (λ (t : List NetDecl). with_some (net_of e.0 e.1) t) (nets-plain es)
 
-lacking-plain : (es : Entries) → lacking_of (plain es) ≡ None → lacking_of es ≡ None
+pub lacking-plain : (es : Entries) → lacking_of (plain es) ≡ None → lacking_of es ≡ None
 lacking-plain [] h = refl
 lacking-plain (e ∷ es) h = by (lacks_direction e.1) h (lacking-plain es)
   where
@@ -165,3 +164,63 @@ absent_before xs t ys d = by (has_text t xs) refl
     by : (b : Bool) → has_text t xs ≡ b → has_text t xs ≡ false
     by false e = e
     by true e = let no : true ≡ false = sym d ∙ distinct-repeated xs t ys e in absurd cc
+
+-- ---- the entries of the reader
+
+module _ (names : List (List ℕ)) where
+  none_back : (r : Option Entry) → option_map erased r ≡ None → r ≡ None
+  none_back None h = refl
+  none_back (Some e) h = absurd cc
+
+  some_back : (r : Option Entry) (v : Entry) → option_map erased r ≡ Some v → (a : ℕ) × (r ≡ Some (record v { at = a }))
+  some_back None v h = absurd cc
+  some_back (Some e) v h =
+      let same : erased e ≡ v = cc in
+      (e.at, ap (λ (x : Entry). Some (record x { at = e.at })) same)
+
+  seen : (t : List ℕ) (es : Entries) (d : Declared) → plain es ≡ keyed names d → has_text t names ≡ true → all_known names (names_in d) ≡ true → option_map erased (found es (id names t)) ≡ lookup (same_text t) d
+  seen t es d h k all = sym (lookup-plain (nat_eq (id names t).0) es) ∙ ap (lookup (nat_eq (id names t).0)) h ∙ lookup_keyed names t d k all
+
+  -- a name that stands for nothing
+  pub found_none : (t : List ℕ) (es : Entries) (d : Declared) → plain es ≡ keyed names d → has_text t names ≡ true → all_known names (names_in d) ≡ true → has_text t (names_in d) ≡ false → found es (id names t) ≡ None
+  found_none t es d h k all absent = none_back (found es (id names t)) (seen t es d h k all ∙ lookup_absent t d absent)
+
+  -- a name that stands for something
+  pub found_some : (t : List ℕ) (es : Entries) (d : Declared) (v : Entry) → plain es ≡ keyed names d → has_text t names ≡ true → all_known names (names_in d) ≡ true → lookup (same_text t) d ≡ Some v → (a : ℕ) × (found es (id names t) ≡ Some (record v { at = a }))
+  found_some t es d v h k all there = some_back (found es (id names t)) v (seen t es d h k all ∙ there)
+
+  pub put_new : (t : List ℕ) (es : Entries) (d : Declared) (v : Entry) → plain es ≡ keyed names d → has_text t names ≡ true → all_known names (names_in d) ≡ true → has_text t (names_in d) ≡ false → plain (put es (id names t) v) ≡ keyed names (d ++ (t, erased v) ∷ [])
+  put_new t es d v h k all absent = plain-insert es (id names t).0 v ∙ ap (λ x. insert_entry nat_eq x (id names t).0 (erased v)) h ∙ insert_new names t d (erased v) k all absent
+
+  pub put_old : (t : List ℕ) (es : Entries) (d more : Declared) (old v : Entry) → plain es ≡ keyed names (d ++ (t, old) ∷ more) → has_text t names ≡ true → all_known names (names_in d) ≡ true → has_text t (names_in d) ≡ false → plain (put es (id names t) v) ≡ keyed names (d ++ (t, erased v) ∷ more)
+  put_old t es d more old v h k all absent = plain-insert es (id names t).0 v ∙ ap (λ x. insert_entry nat_eq x (id names t).0 (erased v)) h ∙ insert_old names t d more old (erased v) k all absent
+
+  -- ---- nets among the entries
+
+  abbrev pub is_net_entry : List ℕ × Entry → Bool
+  is_net_entry e = is_net_kind e.1.kind && e.1.fixed
+
+  net_in : (t : List ℕ) (d more : Declared) (r : Option BitRange) → list_all is_net_entry d ≡ true → lookup (same_text t) (map (λ e. (e.0, e.1.range)) d) ≡ Some r → (v : Entry) × (lookup (same_text t) (d ++ more) ≡ Some v) × (is_net_kind v.kind ≡ true) × (v.fixed ≡ true) × (v.range ≡ r)
+  net_in t [] more r all h = absurd cc
+  net_in t (e ∷ d) more r all h =
+      let parts = and_parts (is_net_entry e) (list_all is_net_entry d) all in
+      by parts.0 (same_text t e.0) refl (λ k. net_in t d more r parts.1 k)
+    where
+      by : is_net_entry e ≡ true → (b : Bool) → same_text t e.0 ≡ b → (lookup (same_text t) (map (λ x. (x.0, x.1.range)) d) ≡ Some r → (v : Entry) × (lookup (same_text t) (d ++ more) ≡ Some v) × (is_net_kind v.kind ≡ true) × (v.fixed ≡ true) × (v.range ≡ r))
+          → (v : Entry) × (lookup (same_text t) ((e ∷ d) ++ more) ≡ Some v) × (is_net_kind v.kind ≡ true) × (v.fixed ≡ true) × (v.range ≡ r)
+      by good true s later =
+          let here : Some e.1.range ≡ Some r = rw s at h in
+          let range : e.1.range ≡ r = cc in
+          let both = and_parts (is_net_kind e.1.kind) e.1.fixed good in
+          (e.1, rw s refl, both.0, both.1, range)
+      by good false s later =
+          let there : lookup (same_text t) (map (λ x. (x.0, x.1.range)) d) ≡ Some r = rw s at h in
+          let found_later = later there in
+          (found_later.0, rw s (found_later.1), found_later.2, found_later.3, found_later.4)
+
+  -- a declared net is found with its range
+  pub net_found : (t : List ℕ) (es : Entries) (d more : Declared) (r : Option BitRange) → plain es ≡ keyed names (d ++ more) → has_text t names ≡ true → all_known names (names_in (d ++ more)) ≡ true → list_all is_net_entry d ≡ true → lookup (same_text t) (map (λ e. (e.0, e.1.range)) d) ≡ Some r → IsNet es (id names t) r
+  net_found t es d more r h k all nets there =
+      let n = net_in t d more r nets there in
+      let f = found_some t es (d ++ more) n.0 h k all n.1 in
+      record { entry = record n.0 { at = f.0 }; there = f.1; net = n.2; settled = n.3; ranged = n.4 }

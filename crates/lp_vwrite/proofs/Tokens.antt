@@ -1,5 +1,5 @@
 -- How the words of a written text are cut: each in front of what follows it.
-use Rattle.std.proofs.Common.{◌≡◌, ℕ, suc, ◌+◌, ◌*◌, ◌-◌, ◌<◌, ◌≤◌, Bool, true, false, not, cond, List, [], ◌∷◌, ◌++◌, length, take, drop, Option, None, Some, refl, sym, ap, ◌∙◌, subst, arith}
+use Rattle.std.proofs.Common.{◌≡◌, ℕ, suc, ◌+◌, ◌*◌, ◌-◌, ◌<◌, ◌≤◌, Bool, true, false, not, cond, List, [], ◌∷◌, ◌++◌, length, take, drop, Option, None, Some, refl, sym, ap, ◌∙◌, arith}
 use Rattle.std.specs.Prelude.{IsTrue, ◌&&◌, ◌||◌, ◌==◌, nat_le, nat_lt, decimal, codes, if◌then◌else◌}
 use Rattle.std.specs.List.{list_all, prefix_len}
 use Rattle.std.proofs.lemmas.Bool.{and_parts, and_from}
@@ -8,11 +8,9 @@ use Rattle.std.proofs.Math.Seq.{take-append_seam, drop-append_seam}
 use Rattle.std.proofs.lemmas.Fmt.{decimal_is_IsNumeral}
 use Rattle.std.specs.Str.Parse.{AllDigits, digits_value_after}
 use Rattle.std.specs.Char.{digit_value}
-use Rattle.lp_text.specs.Texts.{has_text}
-use Rattle.lp_verilog_tokens.specs.Lexical.{is_between, is_blank, is_lead, is_digit, is_inner, is_number_byte, is_constant_byte, is_visible}
-use Rattle.lp_verilog_tokens.specs.Reserved.{reserved_words}
+use Rattle.lp_verilog_tokens.specs.Lexical.{is_blank, is_lead, is_digit, is_inner, is_number_byte, is_constant_byte, is_visible}
 use Rattle.lp_verilog_tokens.specs.Constants.{number_behind, number_of}
-use Rattle.lp_verilog_tokens.specs.Cutting.{Lexeme, Named, Plain, Whole, Front, placed, opening, opened, gap_behind, piece_behind, front_of, word_front, word_lexeme, number_at, number_front, escaped_front, escaped_at, mark_of}
+use Rattle.lp_verilog_tokens.specs.Cutting.{Lexeme, Named, Plain, Whole, Front, placed, opening, gap_behind, piece_behind, front_of, word_front, word_lexeme, number_at, number_front, escaped_front, mark_of}
 use Rattle.lp_verilog_tokens.specs.declared.gap.GapMode.TheVariants.{Between}
 use Rattle.lp_verilog_tokens.specs.declared.token.Token.TheVariants as tokens
 use Rattle.lp_verilog_tokens.specs.declared.token.Mark.TheVariants as marks

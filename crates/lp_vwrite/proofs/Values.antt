@@ -1,6 +1,6 @@
 -- Steps over values: bits, concatenations and whole vectors.
-use Rattle.std.proofs.Common.{◌≡◌, ℕ, ◌≤◌, Bool, true, false, not, List, [], ◌∷◌, ◌++◌, map, Option, None, Some, refl, sym, ap, ◌∙◌, subst, append_assoc, arith}
-use Rattle.std.specs.Prelude.{IsTrue, codes, decimal, ◌&&◌, ◌==◌, flat_map, if◌then◌else◌}
+use Rattle.std.proofs.Common.{◌≡◌, ℕ, ◌≤◌, Bool, true, false, List, [], ◌∷◌, ◌++◌, map, Option, None, Some, refl, sym, ap, ◌∙◌, subst, append_assoc, arith}
+use Rattle.std.specs.Prelude.{decimal, ◌==◌, flat_map}
 use Rattle.std.specs.List.{list_all}
 use Rattle.std.proofs.lemmas.Bool.{and_parts}
 use Rattle.std.proofs.lemmas.Bool.Decides.{nat_tests}
@@ -26,10 +26,10 @@ use Rattle.lp_verilog_draft.specs.declared.value.Side.TheVariants as sides
 use Rattle.lp_verilog_draft.specs.Scopes.{Entries, found, use_name, use_old, range_in, entry_range}
 use Rattle.lp_verilog_draft.specs.Values.{is_in, between}
 use Rattle.lp_verilog_draft.specs.Steps.{value_subject, value_whole}
-use Rattle.lp_verilog_draft.specs.Verdicts.{Verdict, Goes, Stops, and_then}
+use Rattle.lp_verilog_draft.specs.Verdicts.{Goes, and_then}
 use Rattle.lp_verilog_grammar.specs.Machine.{step, start_value, scoped, with_value, with_subject}
 use Rattle.lp_verilog.specs.Reading.{Outcome}
-use Rattle.lp_vwrite.specs.Layout.{name_text, bit_text, bits_text, value_text, value_by, whole_by, listed, after_comma, is_bit_of, are_bits}
+use Rattle.lp_vwrite.specs.Layout.{name_text, bit_text, bits_text, value_text, value_by, whole_by, after_comma, is_bit_of, are_bits}
 use Rattle.lp_vwrite.specs.WellFormed.{is_name, is_filled}
 use Rattle.lp_vwrite.proofs.Tokens.{is_apart, close_begins, comma_begins, semicolon_begins, equals_begins, close_brace_begins}
 use Rattle.lp_vwrite.proofs.Onward.{Then, Onward, same_onward}
@@ -103,7 +103,7 @@ apart_bracket : (rest : List ℕ) → is_apart (91 ∷ rest) ≡ true
 unfolding is_inner
 apart_bracket rest = refl
 
-apart_comma : (rest : List ℕ) → is_apart (44 ∷ rest) ≡ true
+pub apart_comma : (rest : List ℕ) → is_apart (44 ∷ rest) ≡ true
 unfolding is_inner
 apart_comma rest = refl
 

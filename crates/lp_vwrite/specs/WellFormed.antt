@@ -4,7 +4,7 @@ use Rattle.std.specs.List.{list_all}
 use Rattle.std.specs.Map.{lookup}
 use Rattle.lp_text.specs.Texts.{same_text, distinct}
 use Rattle.lp_model.specs.declared.netlist.BitRange.{BitRange}
-use Rattle.lp_model.specs.NetlistView.{BitView, NetBit, SelectBit, ConstBit, PortView, NetView, ConnectionView, ConnectionsView, ByName, ByPosition, InstanceView, AssignView, ModuleView}
+use Rattle.lp_model.specs.NetlistView.{BitView, NetBit, SelectBit, ConstBit, ConnectionView, ConnectionsView, ByName, ByPosition, InstanceView, AssignView, ModuleView}
 use Rattle.lp_verilog_tokens.specs.Lexical.{is_visible}
 use Rattle.lp_verilog_draft.specs.Values.{is_in}
 use Rattle.lp_vwrite.specs.Layout.{declared}

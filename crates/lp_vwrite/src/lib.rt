@@ -3,11 +3,13 @@
 
 mod bits;
 mod items;
+mod laws;
 mod module;
 mod name;
 mod netlist;
 mod vectors;
 
+pub use laws::reads_back;
 pub use netlist::write_netlist;
 
 #[cfg(test)]

@@ -1,4 +1,4 @@
-use Rattle.std.proofs.Common.{arith, sym, ◌∙◌}
+use Rattle.std.proofs.Common.{sym, ◌∙◌}
 use Rattle.std.proofs.lemmas.List.{length-map}
 use Rattle.lp_text.specs.Texts.{text_at}
 use Rattle.lp_model.specs.NetlistView.{bit_view, bits_view}

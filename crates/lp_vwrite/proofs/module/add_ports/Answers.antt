@@ -1,4 +1,4 @@
-use Rattle.std.proofs.Common.{◌≡◌, ℕ, List, Option, ◌++◌, [], ◌∷◌, None, get_or, map, sym, ap, ◌∙◌}
+use Rattle.std.proofs.Common.{ℕ, List, Option, ◌++◌, [], ◌∷◌, None, get_or, map, sym, ap, ◌∙◌}
 use Rattle.std.proofs.lemmas.List.{append-nil}
 use Rattle.lp_text.specs.Texts.{text_at}
 use Rattle.lp_model.specs.declared.netlist.BitRange.{BitRange}

@@ -1,4 +1,4 @@
-use Rattle.std.proofs.Common.{◌≡◌, ◌++◌, ℕ, List, map, sym, ap, ◌∙◌}
+use Rattle.std.proofs.Common.{◌≡◌, ◌++◌, ℕ, List, map, ap, ◌∙◌}
 use Rattle.lp_model.specs.NetlistView.{port_view, net_view, module_view}
 use Rattle.lp_vwrite.specs.Layout.{range_in, range_of, vectors_among}
 use Rattle.lp_vwrite.proofs.Ranges.{ranges-more}

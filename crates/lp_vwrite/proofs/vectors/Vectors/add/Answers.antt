@@ -1,4 +1,4 @@
-use Rattle.std.proofs.Common.{◌≡◌, None, not, sym, ap, ◌∙◌, false, true}
+use Rattle.std.proofs.Common.{◌≡◌, not, sym, ap, ◌∙◌, false}
 use Rattle.std.specs.Prelude.{is_some, Option}
 use Rattle.std.specs.String.{string_bytes, string_eq}
 use Rattle.indexmap.proofs.CallerLemmas.{insert_entry-new}

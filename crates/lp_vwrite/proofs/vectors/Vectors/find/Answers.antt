@@ -1,4 +1,4 @@
-use Rattle.std.proofs.Common.{sym, ap, ◌∙◌}
+use Rattle.std.proofs.Common.{ap, ◌∙◌}
 use Rattle.std.specs.String.{string_bytes}
 use Rattle.lp_vwrite.specs.Layout.{range_in}
 use Rattle.lp_vwrite.proofs.Ranges.{lookup-view}
