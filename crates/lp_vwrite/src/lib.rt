@@ -9,7 +9,7 @@ mod name;
 mod netlist;
 mod vectors;
 
-pub use laws::reads_back;
+pub use laws::{example_is_well_formed, reads_back};
 pub use netlist::write_netlist;
 
 #[cfg(test)]
