@@ -3,4 +3,4 @@
 
 mod laws;
 
-pub use laws::{a_closed_group_is_all, joined_is_an_equivalence};
+pub use laws::{a_closed_group_is_all, joined_is_an_equivalence, one_origin};
