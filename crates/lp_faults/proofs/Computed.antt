@@ -7,11 +7,13 @@ use Rattle.lp_model.specs.declared.side.Location.TheVariants.{Parent}
 use Rattle.lp_model.specs.declared.side.Side.{Side}
 use Rattle.lp_model.specs.declared.side.Side.TheVariants.{Upper, Lower}
 use Rattle.lp_model.specs.declared.supply.OriginKind.TheVariants.{Port, Switch}
+use Rattle.lp_model.specs.declared.netlist.Direction.TheVariants.{Output}
+use Rattle.lp_model.specs.NetlistView.{NetBit}
 use Rattle.lp_model.specs.LibraryView.{PinView}
 use Rattle.lp_design.specs.Keys.{Name, Node, Inner}
 use Rattle.lp_design.specs.Graph.{Reader, InputPin}
-use Rattle.lp_design.specs.Intents.{Element, AtInstance, AtPort, AtBit, Strategy, Intent}
-use Rattle.lp_design.specs.Samples.{never, with_strategies, isolation, shifting, by_supply, switched_from_inside}
+use Rattle.lp_design.specs.Intents.{Element, AtInstance, AtPort, AtBit, BySet, Strategy, Intent}
+use Rattle.lp_design.specs.Samples.{never, port, top, core, with_strategies, isolation, shifting, by_supply, switched_from_inside}
 use Rattle.lp_network.specs.Samples.{origin}
 use Rattle.lp_fit.specs.Samples.{buffer}
 use Rattle.lp_realises.specs.Projects.{Project, Placed}
@@ -19,7 +21,7 @@ use Rattle.lp_realises.specs.Implements.{Lists}
 use Rattle.lp_realises.specs.Samples.{inverter, cells, supplies, project, by_the_block}
 use Rattle.lp_first.specs.Lines.{first_of}
 use Rattle.lp_faults.specs.Domains.{no_domain, no_primary}
-use Rattle.lp_faults.specs.Strategies.{SideAt, StrategyAt, Where, OnSide, OnRegister, not_boundary, tied, no_place, no_supply, two_shifters, location_order, shift_supply}
+use Rattle.lp_faults.specs.Strategies.{split_sinks, shift_target, SideAt, StrategyAt, Where, OnSide, OnRegister, not_boundary, tied, no_place, no_supply, two_shifters, location_order, shift_supply}
 use Rattle.lp_faults.specs.Readings.{Reading, ClampReads, PinReads, StrategyAsks, unfit_power, shift_forbidden, uncovered_level, uncovered_isolation, control_level, loop, no_cell}
 
 -- ---- domains
@@ -85,6 +87,24 @@ against_the_flow = refl
 -- a shifter for another input supply
 other_input : map (λ k. where_shifted (first_of (shift_supply (lower (project (with_strategies (record (shifting 1 0) { input = Some k } ∷ []))))))) (2 ∷ 1 ∷ []) ≡ Some Upper ∷ None ∷ []
 other_input = refl
+
+-- ---- an output of the block that the buffer and a top output with a supply of its own read
+
+abbrev read_twice : Intent → Project
+read_twice i = record (project i) {
+  structure = record (project i).structure { modules = record top { ports = port (codes "z") Output None ∷ top.ports; assigns = record { left = NetBit (codes "z") ∷ []; right = NetBit (codes "n") ∷ [] } ∷ [] } ∷ core ∷ [] };
+  intent = record i { receivers = record { port = codes "z"; supply = 2 } ∷ [] };
+}
+
+abbrev to_the_top : Intent
+to_the_top = with_strategies (record (isolation 1 None Outputs) { sink = Some (BySet 0) } ∷ [])
+
+-- the sink is that of one reader and not of the other
+sinks_split : map (λ p. side_of (first_of (split_sinks p))) (read_twice to_the_top ∷ project to_the_top ∷ []) ≡ Some (Upper, 0) ∷ None ∷ []
+sinks_split = refl
+
+targets : map (λ p. side_of (first_of (shift_target p))) (read_twice (with_strategies (shifting 1 0 ∷ [])) ∷ read_twice (with_strategies (record (shifting 1 0) { output = Some 0 } ∷ [])) ∷ project (with_strategies (shifting 1 0 ∷ [])) ∷ []) ≡ Some (Upper, 0) ∷ None ∷ None ∷ []
+targets = refl
 
 -- ---- what is read
 

@@ -3,11 +3,12 @@ use Rattle.std.proofs.Common.{◌≡◌, List, true, false, [], ◌∷◌, Some,
 use Rattle.std.specs.Prelude.{ℕ, Bool, codes, map}
 use Rattle.lp_tern.specs.declared.supply.SupplyState.TheVariants as state
 use Rattle.lp_rows.specs.Rows.{lower_in, within_in}
+use Rattle.lp_model.specs.declared.need.VoltagePair.{VoltagePair}
 use Rattle.lp_model.specs.declared.supply.Supplies.{Supplies}
 use Rattle.lp_design.specs.Keys.{Inner}
 use Rattle.lp_design.specs.Intents.{Network, FromPort, FromSwitch}
 use Rattle.lp_network.specs.Views.{rows_of, lower_sets, leaking_sets, network_view}
-use Rattle.lp_network.specs.Pairs.{paired, pairs_of}
+use Rattle.lp_network.specs.Pairs.{pairs_of}
 use Rattle.lp_network.specs.Samples.{supplies, untabled}
 
 -- set 1 is always lower, by 0.2 and no more; a set that the switch feeds has the voltage of set 0
@@ -38,13 +39,16 @@ tuples = refl
 leaks : map (λ (p : ℕ × ℕ). leaking_sets supplies p.0 p.1) ((2, 0) ∷ (0, 2) ∷ (0, 1) ∷ (2, 1) ∷ []) ≡ true ∷ false ∷ false ∷ true ∷ []
 leaks = refl
 
-pairs_by_rows : pairs_of supplies 1 0 ≡ paired 800000 1000000 ∷ paired 1000000 1200000 ∷ []
+abbrev pair : ℕ → ℕ → VoltagePair
+pair v w = record { input = v; output = w }
+
+pairs_by_rows : pairs_of supplies 1 0 ≡ pair 800000 1000000 ∷ pair 1000000 1200000 ∷ []
 pairs_by_rows = refl
 
-pairs_of_one_root : pairs_of supplies 3 0 ≡ paired 1000000 1000000 ∷ paired 1200000 1200000 ∷ []
+pairs_of_one_root : pairs_of untabled 3 0 ≡ pair 1000000 1000000 ∷ pair 1200000 1200000 ∷ []
 pairs_of_one_root = refl
 
-all_pairs : pairs_of untabled 1 0 ≡ paired 800000 1000000 ∷ paired 800000 1200000 ∷ paired 1000000 1000000 ∷ paired 1000000 1200000 ∷ []
+all_pairs : pairs_of untabled 1 0 ≡ pair 800000 1000000 ∷ pair 800000 1200000 ∷ pair 1000000 1000000 ∷ pair 1000000 1200000 ∷ []
 all_pairs = refl
 
 abbrev network : Network

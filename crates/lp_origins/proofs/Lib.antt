@@ -1,1 +1,3 @@
 mod Computed
+pub mod JoinedLaws
+pub mod OneOrigin

@@ -36,11 +36,10 @@ pub record IsOriginOf (commands : List Command) (a : Supply) (o : ℕ) : Type 0 
   pub numbered : slice_get (sources commands) o ≡ Some source
   pub joined : Joined commands a (fed_by source)
 
--- a group is used only where it has one
-pub record HasOneOrigin (commands : List Command) (a : Supply) : Type 0 where
-  pub origin : ℕ
-  pub is_origin : IsOriginOf commands a origin
-  pub only : (o : ℕ) → IsOriginOf commands a o → o ≡ origin
+-- it is the only one: a group is used only where it has one
+pub record IsOneOrigin (commands : List Command) (a : Supply) (o : ℕ) : Type 0 where
+  pub is_origin : IsOriginOf commands a o
+  pub only : (q : ℕ) → IsOriginOf commands a q → q ≡ o
 
 -- ---- computing it; the fuel is the number of ports and nets
 

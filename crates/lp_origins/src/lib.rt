@@ -1,2 +1,6 @@
 //! Where supplies come from: joined supply ports and nets, their origins and roots, supply sets, and what is used.
 #![tactic(auto)]
+
+mod laws;
+
+pub use laws::{a_closed_group_is_all, joined_is_an_equivalence, one_origin};
