@@ -14,6 +14,7 @@ use Rattle.lp_verilog.specs.Reading.{Reading, Outcome, Left, read_rest}
 use Rattle.lp_verilog.specs.Denotes.{LeadsTo, Denotes}
 use Rattle.lp_verilog.specs.Refusing.{fault_of, IsFault, Refuses, HasNone}
 use Rattle.lp_verilog.specs.Reads.{Reads}
+use Rattle.lp_verilog.specs.Places.{FirstFault}
 use Rattle.lp_verilog.proofs.Found.{found}
 use Rattle.lp_verilog.proofs.Unique.{none_where_refused}
 
@@ -24,9 +25,9 @@ leads_to text names mid final o e g =
     subst (LeadsTo final text) (ap (λ (r : Reading). r.outcome) e) (found text names final grown)
 
 -- a fault is the refusal of its text
-pub refused : (names : List (List ℕ)) (text : List ℕ) (r : Refusal) (off : Off) (at : ℕ) (word : List ℕ) → length text ≤ 67108864 → LeadsTo names text (Left off at word) → IsFault r (fault_of names text at word off) → Refuses names text r
-refused names text refusals.NoMemory off at word l leads is = tt
-refused names text (refusals.Fault fault) off at word l leads is = inr (l, record { off = off; at = at; word = word; leads = leads; fault = is })
+pub refused : (names : List (List ℕ)) (text : List ℕ) (r : Refusal) (off : Off) (at : ℕ) (word : List ℕ) → length text ≤ 67108864 → LeadsTo names text (Left off at word) → FirstFault text at → IsFault r (fault_of names text at word off) → Refuses names text r
+refused names text refusals.NoMemory off at word l leads first is = tt
+refused names text (refusals.Fault fault) off at word l leads first is = inr (l, record { off = off; at = at; word = word; leads = leads; fault = is; first = first })
 
 -- a halt at a token
 pub left_at : (e : Halt) (off : Off) (at : ℕ) (word : Bor (List ℕ)) (names : List (List ℕ)) (reading : Reading) → e ≡ halts.Left off at word → Halts e names reading → reading ≡ record { outcome = Left off at word.now; names = names }

@@ -17,11 +17,11 @@ use Rattle.lp_verilog.proofs.Across.{has_place}
 use Rattle.lp_verilog.proofs.Unique.{one_view, covers_left}
 
 module _ (old new : List (List ℕ)) (g : Grown old new) (size : ℕ) where
-  known_still : (l : Lexeme) → is_known old l ≡ true → is_known new l ≡ true
+  pub known_still : (l : Lexeme) → is_known old l ≡ true → is_known new l ≡ true
   known_still (Plain t) h = refl
   known_still (Named t) h = ap (has_text t) g.is ∙ covers_left old g.more t h
 
-  number_still : (l : Lexeme) → is_known old l ≡ true → numbered old l ≡ numbered new l
+  pub number_still : (l : Lexeme) → is_known old l ≡ true → numbered old l ≡ numbered new l
   number_still (Plain t) h = refl
   number_still (Named t) h =
       let p = has_place t old h in

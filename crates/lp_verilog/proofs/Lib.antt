@@ -6,3 +6,13 @@ pub mod Renamed
 pub mod Across
 pub mod Unique
 pub mod Growing
+pub mod Shapes
+pub mod States
+pub mod Ending
+pub mod Spelling
+pub mod Pieces
+pub mod Words
+pub mod Tabled
+pub mod Fronts
+pub mod Leaving
+pub mod Faults

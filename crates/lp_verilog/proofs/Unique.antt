@@ -30,11 +30,11 @@ or_right false b e = e
 pub covers_left : (a b : List (List ℕ)) → Covers a (a ++ b)
 covers_left a b t h = has_text-append t a b ∙ or_left (has_text t a) (has_text t b) h
 
-covers_right : (a b : List (List ℕ)) → Covers b (a ++ b)
+pub covers_right : (a b : List (List ℕ)) → Covers b (a ++ b)
 covers_right a b t h = has_text-append t a b ∙ or_right (has_text t a) (has_text t b) h
 
 -- the number that stands for no name
-none : ℕ → Reader
+pub none : ℕ → Reader
 none q = record {
   waiting = symbols.Source ∷ [];
   modules = [];
@@ -46,7 +46,7 @@ none q = record {
   left = [];
 }
 
-begun : (from to : List (List ℕ)) → length from ≤ 4294967295 → rd (renumber from to) start ≡ none (length to + 4294967295)
+pub begun : (from to : List (List ℕ)) → length from ≤ 4294967295 → rd (renumber from to) start ≡ none (length to + 4294967295)
 unfolding none
 begun from to few = ap none (ap (by_text to 4294967295) (slice_get_past from 4294967295 few))
 

@@ -1,5 +1,6 @@
 pub mod Reading
 pub mod Answers
 pub mod Denotes
-pub mod Refusing
 pub mod Reads
+pub mod Places
+pub mod Refusing

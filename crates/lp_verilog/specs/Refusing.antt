@@ -14,6 +14,7 @@ use Rattle.lp_verilog_draft.specs.declared.stop.Off.{Off}
 use Rattle.lp_verilog_draft.specs.declared.stop.Off.TheVariants as offs
 use Rattle.lp_verilog.specs.Reading.{Left}
 use Rattle.lp_verilog.specs.Denotes.{LeadsTo}
+use Rattle.lp_verilog.specs.Places.{FirstFault}
 
 -- the fault of a token at a byte, in this text
 abbrev pub fault_of : List (List ℕ) → List ℕ → ℕ → List ℕ → Off → NetlistFault
@@ -22,13 +23,14 @@ fault_of names text at word offs.Unsupported = faults.Unsupported (place_in text
 fault_of names text at word (offs.Duplicate name) = faults.DuplicateName (place_in text at) name
 fault_of names text at word (offs.Lacking port) = faults.Syntax (place_in text port)
 
--- the first token that cannot stand where it does, and its fault
+-- the first token that cannot stand where it does, and its fault; there the text leaves the netlists
 pub record StopsAt (names : List (List ℕ)) (text : List ℕ) (r : Refusal) : Type 0 where
   pub off : Off
   pub at : ℕ
   pub word : List ℕ
   pub leads : LeadsTo names text (Left off at word)
   pub fault : r ≡ netlist_refusal (fault_of names text at word off)
+  pub first : FirstFault text at
 
 -- the text is too long
 abbrev pub too_long : Refusal
