@@ -22,7 +22,7 @@ use Rattle.lp_realises.specs.Samples.{inverter, cells, supplies, project, by_the
 use Rattle.lp_first.specs.Lines.{first_of}
 use Rattle.lp_faults.specs.Domains.{no_domain, no_primary}
 use Rattle.lp_faults.specs.Strategies.{split_sinks, shift_target, SideAt, StrategyAt, Where, OnSide, OnRegister, not_boundary, tied, no_place, no_supply, two_shifters, location_order, shift_supply}
-use Rattle.lp_faults.specs.Readings.{Reading, ClampReads, PinReads, StrategyAsks, unfit_power, shift_forbidden, uncovered_level, uncovered_isolation, control_level, loop, no_cell}
+use Rattle.lp_faults.specs.Readings.{row_of_level, row_of_leak, Reading, ClampReads, PinReads, StrategyAsks, unfit_power, shift_forbidden, uncovered_level, uncovered_isolation, control_level, loop, no_cell}
 
 -- ---- domains
 
@@ -132,6 +132,12 @@ clamp_reads_too_low = refl
 
 buffer_reads_too_low : reader_of (first_of (uncovered_level (lower (project (with_strategies []))))) ≡ Some (false, 0)
 buffer_reads_too_low = refl
+
+shown_by_row_0 : option_and_then (row_of_level (lower (project (with_strategies [])))) (first_of (uncovered_level (lower (project (with_strategies []))))) ≡ Some 0
+shown_by_row_0 = refl
+
+leak_in_row_0 : row_of_leak (project (with_strategies [])) at_the_buffer ≡ Some 0
+leak_in_row_0 = refl
 
 -- a strategy that forbids the shifter
 forbidden : map (λ t. reader_of (first_of (shift_forbidden (lower (project (with_strategies (t ∷ []))))))) (record (shifting 1 0) { inserts = false } ∷ shifting 1 300000 ∷ []) ≡ Some (false, 0) ∷ None ∷ []

@@ -18,12 +18,14 @@ use Rattle.lp_design.specs.Chains.{Operator, Clamp, Shift, rail, rail_after, bit
 use Rattle.lp_design.specs.Registers.{retention, retention_winner}
 use Rattle.lp_design.specs.Settled.{Key, At}
 use Rattle.lp_design.specs.Reads.{reads, same_key}
-use Rattle.lp_network.specs.Views.{lower_sets, leaking_sets}
+use Rattle.lp_rows.specs.Leaks.{leaks_in}
+use Rattle.lp_rows.specs.Rows.{lower_in}
+use Rattle.lp_network.specs.Views.{first_row, lower_sets, leaking_sets}
 use Rattle.lp_fit.specs.PowerDown.{is_unfit_power}
 use Rattle.lp_realises.specs.Projects.{Project, Placed, network_of, design_of}
 use Rattle.lp_realises.specs.Operators.{OperatorAt, all_operators, chain_of, SwitchAt, all_switches}
 use Rattle.lp_realises.specs.Realises.{cell_instances, cell_of, primary_at}
-use Rattle.lp_realises.specs.Controls.{reads_too_low, power_of}
+use Rattle.lp_realises.specs.Controls.{reads_too_low, power_of, power_of_rail}
 use Rattle.lp_realises.specs.Implements.{Lists, operator_path, operator_chosen, switch_chosen, register_chosen}
 use Rattle.lp_first.specs.Lines.{Line}
 use Rattle.lp_faults.specs.Strategies.{registers, rail_to_bit, crossing_of}
@@ -102,6 +104,14 @@ last_forbids p (b ∷ rest) = is_forbidden p Shifting b
 abbrev pub shift_forbidden : Project → Line Reading
 shift_forbidden p = record { places = all_readings p; test = λ x. is_level_uncovered p x && last_forbids p (bits_of_reading p x) }
 
+-- the first row that shows it
+abbrev pub row_of_lower : Project → Option ℕ → Option ℕ → Option ℕ
+row_of_lower p (Some a) (Some b) = first_row p.supplies (λ row. lower_in p.supplies row a b p.margin)
+row_of_lower p _ _ = None
+
+abbrev pub row_of_level : Project → Reading → Option ℕ
+row_of_level p x = row_of_lower p (power_of p (reaching_rail p x)) (power_of p (reading_supply p x))
+
 abbrev pub uncovered_level : Project → Line Reading
 uncovered_level p = record { places = all_readings p; test = is_level_uncovered p }
 
@@ -109,6 +119,14 @@ uncovered_level p = record { places = all_readings p; test = is_level_uncovered 
 
 abbrev pub is_leaking : Project → Reader × Node → Bool
 is_leaking p r = of_both (leaking_sets p.supplies) (rail p.structure (network_of p) p.intent p.fuel r.1) (reader_supply p.intent r.0)
+
+-- the first row that shows a leak
+abbrev pub row_of_leak : Project → Reader × Node → Option ℕ
+row_of_leak p r = by (power_of p (rail p.structure (network_of p) p.intent p.fuel r.1)) (power_of p (reader_supply p.intent r.0))
+  where
+    by : Option ℕ → Option ℕ → Option ℕ
+    by (Some a) (Some b) = first_row p.supplies (λ row. leaks_in p.supplies row a b)
+    by _ _ = None
 
 abbrev pub uncovered_isolation : Project → Line (Reader × Node)
 uncovered_isolation p = record { places = readers p.structure; test = λ (r : Reader × Node). is_leaking p r && not (list_any (is_forbidden p Isolation) (bits_before p r.1)) }
@@ -171,6 +189,10 @@ control_reads p order = flat_map by order
     by : Asks → List ControlRead
     by (StrategyAsks t) = reads_of_strategy p t (slice_get p.intent.strategies t)
     by (SwitchAsks o) = reads_of_switch o (all_switches p)
+
+-- the first row in which the rail of the control is lower than what reads it
+abbrev pub row_of_control : Project → ControlRead → Option ℕ
+row_of_control p x = row_of_lower p (power_of_rail p x.control) x.reader
 
 abbrev pub control_level : Project → List Asks → Line ControlRead
 control_level p order = record { places = control_reads p order; test = λ (x : ControlRead). reads_too_low p x.control x.reader }

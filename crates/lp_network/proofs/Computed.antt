@@ -1,13 +1,13 @@
 -- Which supplies may be lower, leak or have voltages together, computed on the small supply network.
-use Rattle.std.proofs.Common.{◌≡◌, List, true, false, [], ◌∷◌, Some, refl}
-use Rattle.std.specs.Prelude.{ℕ, Bool, codes, map}
+use Rattle.std.proofs.Common.{◌≡◌, List, true, false, [], ◌∷◌, Some, None, refl}
+use Rattle.std.specs.Prelude.{ℕ, ◌&&◌, Bool, codes, map}
 use Rattle.lp_tern.specs.declared.supply.SupplyState.TheVariants as state
 use Rattle.lp_rows.specs.Rows.{lower_in, within_in}
 use Rattle.lp_model.specs.declared.need.VoltagePair.{VoltagePair}
 use Rattle.lp_model.specs.declared.supply.Supplies.{Supplies}
 use Rattle.lp_design.specs.Keys.{Inner}
 use Rattle.lp_design.specs.Intents.{Network, FromPort, FromSwitch}
-use Rattle.lp_network.specs.Views.{rows_of, lower_sets, leaking_sets, network_view}
+use Rattle.lp_network.specs.Views.{first_row, rows_of, lower_sets, leaking_sets, network_view}
 use Rattle.lp_network.specs.Pairs.{pairs_of}
 use Rattle.lp_network.specs.Samples.{supplies, untabled}
 
@@ -24,6 +24,13 @@ by_too_much = refl
 -- without a table both may be lower by less than 0.4, but not the first
 free_states : lower_than untabled 399999 ≡ true ∷ false ∷ true ∷ false ∷ false ∷ false ∷ false ∷ []
 free_states = refl
+
+the_first_row : map (λ (x : Supplies × ℕ × ℕ). first_row x.0 (λ row. lower_in x.0 row x.1 x.2 0)) ((supplies, 1, 0) ∷ (supplies, 0, 1) ∷ (untabled, 1, 0) ∷ []) ≡ Some 1 ∷ None ∷ Some 0 ∷ []
+the_first_row = refl
+
+-- of these two tests together only the second row passes both
+second_row : first_row supplies (λ row. lower_in supplies row 1 0 100000 && within_in supplies row (state.On 1200000 ∷ state.Off ∷ state.On 0 ∷ [])) ≡ Some 2
+second_row = refl
 
 each_row_shows_it : map (λ row. lower_in supplies row 1 0 0) (rows_of supplies) ≡ true ∷ true ∷ []
 each_row_shows_it = refl

@@ -1,2 +1,3 @@
 mod Computed
+pub mod FirstRow
 pub mod SomeRow

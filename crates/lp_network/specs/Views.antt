@@ -10,6 +10,7 @@ use Rattle.lp_model.specs.declared.supply.SetOrigins.{SetOrigins}
 use Rattle.lp_model.specs.declared.supply.Supplies.{Supplies}
 use Rattle.lp_rows.specs.Rows.{lower_in}
 use Rattle.lp_rows.specs.Leaks.{leaks_in}
+use Rattle.lp_design.specs.Domains.{first_number}
 use Rattle.lp_design.specs.Keys.{Node}
 use Rattle.lp_design.specs.Intents.{SetNumber, SupplySet, Origin, FromPort, FromSwitch, Network}
 
@@ -20,6 +21,14 @@ all_rows (row ∷ rows) = row.states ∷ map (λ (r : Row). r.states) rows
 
 abbrev pub rows_of : Supplies → List (List RowState)
 rows_of s = all_rows s.rows
+
+-- the number of the first row that passes a test; rows count from 1, and without any there is row 0
+abbrev pub first_among : (List RowState → Bool) → List Row → Option ℕ
+first_among p [] = first_number p 0 ([] ∷ [])
+first_among p (row ∷ rows) = first_number p 1 (row.states ∷ map (λ (r : Row). r.states) rows)
+
+abbrev pub first_row : Supplies → (List RowState → Bool) → Option ℕ
+first_row s p = first_among p s.rows
 
 -- some row allows the roots of two origins voltages of which the first, with a number added, is below the second
 abbrev pub lower_origins : Supplies → ℕ → ℕ → ℕ → Bool

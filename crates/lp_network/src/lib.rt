@@ -4,4 +4,4 @@
 
 mod laws;
 
-pub use laws::lower_by_the_table;
+pub use laws::{a_test_has_its_first_row, lower_by_the_table, one_first_row};
