@@ -88,7 +88,7 @@ module _ (texts : List (List ℕ)) (apart : distinct texts ≡ true) where
       let rest = expr_numbers g.next ++ (expr_numbers g.clock ++ (expr_numbers g.clear ++ (expr_numbers g.preset ++ expr_numbers g.power_down))) in
       let var = same_name g.var.0 v.0 (below-head (length texts) g.var.0 (g.inverse.0 ∷ rest) below) l in
       let inverse = same_name g.inverse.0 v.0 (below-head (length texts) g.inverse.0 rest (below-tail (length texts) g.var.0 (g.inverse.0 ∷ rest) below)) l in
-      λ i. if var i then by_text.known bit else if inverse i then by_text.known (not bit) else X
+      λ i. if var i then numbers.known bit else if inverse i then numbers.known (not bit) else X
 
   value : (pins : List Tern) (o : Option PinView) (r : Option ℕ) (x s t : Tern) → is_some o ≡ is_some r → ((k : ℕ) → r ≡ Some k → x ≡ slice_index_or pins k X) → s ≡ t → by_text.value_named o x s ≡ numbers.at_place pins r t
   value pins None None x s t e h same = same
