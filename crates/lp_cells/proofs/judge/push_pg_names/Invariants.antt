@@ -1,0 +1,8 @@
+use Rattle.std.proofs.Common.{◌≡◌, ◌++◌, [], drop}
+use Rattle.std.specs.Prelude.{map}
+use Rattle.std.specs.List.{list_any, list_all}
+use Rattle.lp_model.specs.Agreement.{name_texts}
+use Rattle.lp_cells.proofs.judge.push_pg_names.Given as goal
+
+abbrev pub invariant-loop-pg : goal.invariant-loop-pg
+invariant-loop-pg l = l.ids.items ++ map (λ p. p.name) (drop l.pg-index l.pgs) ≡ l.fn.ids.items ++ map (λ p. p.name) l.pgs

@@ -1,0 +1,14 @@
+//! The cells of Liberty groups: the cells of libraries, and why a cell cannot be used.
+#![tactic(auto)]
+
+mod cell;
+mod faulty;
+mod files;
+mod judge;
+mod laws;
+
+mod reading;
+mod structure;
+
+pub use laws::{one_library, one_library_answer};
+pub use files::library;
