@@ -3,7 +3,6 @@ use Rattle.std.proofs.Common.{◌≡◌, ℕ, zero, suc, ◌+◌, ◌≤◌, ◌
 use Rattle.std.specs.Prelude.{nat_eq, nat_lt, nat_le, is_some, is_none, not, ◌&&◌, ◌||◌, ◌==◌, if◌then◌else◌}
 use Rattle.std.specs.List.{list_all, list_any}
 use Rattle.std.specs.Map.{lookup}
-use Rattle.indexmap.specs.IndexMap.{insert_entry}
 use Rattle.indexmap.specs.IndexSet.{insert_key}
 use Rattle.std.proofs.lemmas.Bool.{true≢false, and_parts, and_from, or_left, or_right, eq-eqb}
 use Rattle.std.proofs.lemmas.Bool.Decides.{nat_tests}
@@ -31,11 +30,11 @@ use Rattle.lp_verilog_draft.specs.Scopes.{Entries, found, lacking_of, add_new, d
 use Rattle.lp_verilog_draft.specs.Steps
 use Rattle.lp_verilog_draft.specs.Values.{is_in, goes_along, select, constant_bits}
 use Rattle.lp_verilog_grammar.specs.declared.reader.Reader.{Reader}
-use Rattle.lp_verilog_grammar.specs.Grammar.{is_same_mark, on_expected, production}
-use Rattle.lp_verilog_grammar.specs.Machine.{start, with_scope, with_value, scoped, valued, with_subject, begun_instance, end_instance, end_ordered, end_named, end_left, end_assign, is_bracket, settled, produced, take_token, step, is_source, accepts}
+use Rattle.lp_verilog_grammar.specs.Grammar.{is_same_mark, on_expected}
+use Rattle.lp_verilog_grammar.specs.Machine.{with_scope, with_value, scoped, valued, with_subject, begun_instance, end_instance, end_ordered, end_named, end_left, end_assign, is_bracket, settled, produced, take_token, step, is_source, accepts}
 use Rattle.lp_verilog.specs.Places.{is_ports, plain, has_left, fits_range, can_take}
 use Rattle.lp_verilog.proofs.Shapes.{calm, then_right, Ok, there_any, is_small, small, Good, put_good, good_more, none_there, below, none_taken, below_more, below_insert, Found, some_found, lacking_count, none_lacks, some_lacks, fewer_lack}
-use Rattle.lp_verilog.proofs.States.{range_has, Ready, calm_ready, index_ready, Kept, State, kept_more, Held, declare_held, range_small, Sound}
+use Rattle.lp_verilog.proofs.States.{range_has, Ready, calm_ready, index_ready, State, Held, declare_held, range_small, Sound}
 
 -- the state with other symbols that are waited for
 abbrev pub on : List Symbol → Reader → Reader
@@ -344,7 +343,7 @@ module _ (after : ℕ → Token → ℕ) where
               let next = after at (tokens.Name port) in
               let semicolon = tokens.Mark marks.Semicolon in
               one at b (tokens.Name port) (record (on (s2 ∷ symbols.DeclaredMore ∷ symbols.Items ∷ rest) m) { declaring = d }) u goes below_b
-                (one next b semicolon u (on (symbols.Items ∷ rest) u) refl refl (again (after next semicolon) u count kept).led)
+              (one next b semicolon u (on (symbols.Items ∷ rest) u) refl refl (again (after next semicolon) u count kept).led)
 
           input : Token
           input = tokens.Keyword keywords.Input
@@ -378,12 +377,12 @@ module _ (after : ℕ → Token → ℕ) where
               let k4 = after k3 right in
               let k5 = after k4 close in
               first k b input (on (symbols.Items ∷ rest) m) m0 refl refl refl
-                (one k0 b open_ m0 m1 refl refl
-                  (one k1 b left m1 m2 refl bound.0
-                    (one k2 b colon m2 m3 refl refl
-                      (one k3 b right m3 m4 refl bound.1
-                        (one k4 b close m4 m5 refl refl
-                          (named symbols.DeclaredName (λ e at. refl) k5 d2 refl (sym is) bound.0))))))
+              (one k0 b open_ m0 m1 refl refl
+              (one k1 b left m1 m2 refl bound.0
+              (one k2 b colon m2 m3 refl refl
+              (one k3 b right m3 m4 refl bound.1
+              (one k4 b close m4 m5 refl refl
+              (named symbols.DeclaredName (λ e at. refl) k5 d2 refl (sym is) bound.0))))))
 
   lt_start : (n b : ℕ) (s : Symbol) (rest : List Symbol) → n + length (s ∷ rest) ≤ b → nat_lt n b ≡ true
   lt_start n b s rest room = lt_test n b (omega (arith, room))
@@ -426,7 +425,7 @@ module _ (after : ℕ → Token → ℕ) where
           let kept : State (suc n) whole = record { names = names; modules = below_more n m.taken s.modules; left = s.left; range = s.range; subject = range_small (suc n) es id names } in
           let used : use_by m.value.side k m.draft.scope id (found m.draft.scope id) ≡ Goes es = ap (λ side. use_by side k m.draft.scope id (found m.draft.scope id)) is ∙ ap (use_by sides.Left k m.draft.scope id) (none_there n m.draft.scope s.names.1) in
           first k b t (on (symbols.Value ∷ rest) m) u (ap (λ v. and_then (scoped m1 v) (λ x. Goes (with_subject id x))) used) room refl
-            (tail (after k t) b rest u still inside (more (after k t) whole kept)).led
+          (tail (after k t) b rest u still inside (more (after k t) whole kept)).led
 
   abbrev Same : Reader → Reader → Type 0
   Same u m = (u.draft.scope ≡ m.draft.scope) × (u.taken ≡ m.taken) × (u.declaring ≡ m.declaring) × (u.value.range ≡ m.value.range)
@@ -506,11 +505,11 @@ module _ (after : ℕ → Token → ℕ) where
           let u : Reader = with_scope (record (on rest m) { declaring = d2 }) named.entries in
           let kept : State (suc n) u = record { names = named.good; modules = below_more n m.taken s.modules; left = bound.0; range = small_r; subject = s.subject } in
           one k b open_ (on (top ∷ rest) m) m1 (bracket k) refl
-            (one k1 b left m1 m2 refl bound.0
-              (one k2 b colon m2 m3 refl refl
-                (one k3 b right m3 m4 refl bound.1
-                  (one k4 b close m4 m5 refl refl
-                    (one k5 b t m5 u (ap (scoped (record (on rest m) { declaring = d2 })) named.goes) (lt_room named.id.0 (suc n) b named.under room) (more (after k5 t) u kept).led)))))
+          (one k1 b left m1 m2 refl bound.0
+          (one k2 b colon m2 m3 refl refl
+          (one k3 b right m3 m4 refl bound.1
+          (one k4 b close m4 m5 refl refl
+          (one k5 b t m5 u (ap (scoped (record (on rest m) { declaring = d2 })) named.goes) (lt_room named.id.0 (suc n) b named.under room) (more (after k5 t) u kept).led)))))
 
       with_range : (key : ℕ) (e : Entry) → lookup (nat_eq key) es ≡ Some e → lacks_direction e ≡ true → small e.range ≡ true → (o : Option BitRange) → e.range ≡ o → is_some e.range ≡ true → Led k b (on (top ∷ rest) m)
       with_range key e there lacks narrow None is some = absurd (true≢false (sym some ∙ ap is_some is))
@@ -537,38 +536,38 @@ module _ (after : ℕ → Token → ℕ) where
       let u : Reader = record (on rest m) { taken = insert_key nat_eq m.taken n; draft = Steps.module_named id } in
       let kept : State (suc n) u = record { names = (refl, refl); modules = below_insert (suc n) n m.taken (under_next n) (below_more n m.taken s.modules); left = s.left; range = s.range; subject = s.subject } in
       first k b t (on (symbols.ModuleName ∷ rest) m) u (rw (none_taken n m.taken s.modules) refl) (lt_start n b symbols.ModuleName rest room) refl
-        (finish rest (after k t) (suc n) b u h.3 kept (calm_ready rest u.value h.1) (directed_plain u.declaring rest u.draft.scope h.0) (room_next n b symbols.ModuleName rest room)).led
+      (finish rest (after k t) (suc n) b u h.3 kept (calm_ready rest u.value h.1) (directed_plain u.declaring rest u.draft.scope h.0) (room_next n b symbols.ModuleName rest room)).led
   finish (symbols.Header ∷ rest) k n b m h s r d room =
       let t = tokens.Mark marks.Semicolon in
       let u : Reader = on rest m in
       let kept : State n u = record { names = s.names; modules = s.modules; left = s.left; range = s.range; subject = s.subject } in
       first k b t (on (symbols.Header ∷ rest) m) u refl refl refl
-        (finish rest (after k t) n b u h.3 kept (calm_ready rest u.value h.1) (directed_plain u.declaring rest u.draft.scope h.0) (room_same n b symbols.Header rest room)).led
+      (finish rest (after k t) n b u h.3 kept (calm_ready rest u.value h.1) (directed_plain u.declaring rest u.draft.scope h.0) (room_same n b symbols.Header rest room)).led
   finish (symbols.Ports ∷ rest) k n b m h s r d room =
       let t = tokens.Mark marks.Close in
       let u : Reader = on rest m in
       let kept : State n u = record { names = s.names; modules = s.modules; left = s.left; range = s.range; subject = s.subject } in
       first k b t (on (symbols.Ports ∷ rest) m) u refl refl refl
-        (finish rest (after k t) n b u h.3 kept (calm_ready rest u.value h.1) (directed_plain u.declaring rest u.draft.scope h.0) (room_same n b symbols.Ports rest room)).led
+      (finish rest (after k t) n b u h.3 kept (calm_ready rest u.value h.1) (directed_plain u.declaring rest u.draft.scope h.0) (room_same n b symbols.Ports rest room)).led
   finish (symbols.PortsMore ∷ rest) k n b m h s r d room =
       let t = tokens.Mark marks.Close in
       let u : Reader = on rest m in
       let kept : State n u = record { names = s.names; modules = s.modules; left = s.left; range = s.range; subject = s.subject } in
       first k b t (on (symbols.PortsMore ∷ rest) m) u refl refl refl
-        (finish rest (after k t) n b u h.3 kept (calm_ready rest u.value h.1) (directed_plain u.declaring rest u.draft.scope h.0) (room_same n b symbols.PortsMore rest room)).led
+      (finish rest (after k t) n b u h.3 kept (calm_ready rest u.value h.1) (directed_plain u.declaring rest u.draft.scope h.0) (room_same n b symbols.PortsMore rest room)).led
   finish (symbols.PortName ∷ rest) k n b m h s r d room =
       let id : NameId = record { 0 = n } in
       let t = tokens.Name id in
       let u : Reader = with_scope (on rest m) (put m.draft.scope id (listed k)) in
       let kept : State (suc n) u = record { names = put_good (suc n) n (listed k) m.draft.scope (under_next n) refl (good_more n m.draft.scope s.names); modules = below_more n m.taken s.modules; left = s.left; range = s.range; subject = s.subject } in
       first k b t (on (symbols.PortName ∷ rest) m) u (ap (λ o. scoped (on rest m) (add_new m.draft.scope id (listed k) o)) (none_there n m.draft.scope s.names.1)) (lt_start n b symbols.PortName rest room) refl
-        (finish rest (after k t) (suc n) b u h.3 kept (calm_ready rest u.value h.1) (directed_plain u.declaring rest u.draft.scope h.0) (room_next n b symbols.PortName rest room)).led
+      (finish rest (after k t) (suc n) b u h.3 kept (calm_ready rest u.value h.1) (directed_plain u.declaring rest u.draft.scope h.0) (room_next n b symbols.PortName rest room)).led
   finish (symbols.HeaderMore ∷ rest) k n b m h s r d room =
       let t = tokens.Mark marks.Close in
       let u : Reader = on rest m in
       let kept : State n u = record { names = s.names; modules = s.modules; left = s.left; range = s.range; subject = s.subject } in
       first k b t (on (symbols.HeaderMore ∷ rest) m) u refl refl refl
-        (finish rest (after k t) n b u h.3 kept (calm_ready rest u.value h.1) (directed_plain u.declaring rest u.draft.scope h.0) (room_same n b symbols.HeaderMore rest room)).led
+      (finish rest (after k t) n b u h.3 kept (calm_ready rest u.value h.1) (directed_plain u.declaring rest u.draft.scope h.0) (room_same n b symbols.HeaderMore rest room)).led
   finish (symbols.HeaderPort ∷ rest) k n b m h s r d room =
       let id : NameId = record { 0 = n } in
       let given : Declaring = record { form = forms.Header; direction = directions.Input; range = None; left = 0 } in
@@ -579,52 +578,52 @@ module _ (after : ℕ → Token → ℕ) where
       let u : Reader = with_scope (on rest mid) (put m.draft.scope id (headed given k2)) in
       let kept : State (suc n) u = record { names = put_good (suc n) n (headed given k2) m.draft.scope (under_next n) refl (good_more n m.draft.scope s.names); modules = below_more n m.taken s.modules; left = refl; range = refl; subject = s.subject } in
       first k b input (on (symbols.HeaderPort ∷ rest) m) mid refl refl refl
-        (one k2 b t mid u (ap (λ o. scoped (on rest mid) (add_new m.draft.scope id (headed given k2) o)) (none_there n m.draft.scope s.names.1)) (lt_start n b symbols.HeaderPort rest room)
-          (finish rest (after k2 t) (suc n) b u h.3 kept (calm_ready rest u.value h.1) (directed_plain u.declaring rest u.draft.scope h.0) (room_next n b symbols.HeaderPort rest room)).led)
+      (one k2 b t mid u (ap (λ o. scoped (on rest mid) (add_new m.draft.scope id (headed given k2) o)) (none_there n m.draft.scope s.names.1)) (lt_start n b symbols.HeaderPort rest room)
+      (finish rest (after k2 t) (suc n) b u h.3 kept (calm_ready rest u.value h.1) (directed_plain u.declaring rest u.draft.scope h.0) (room_next n b symbols.HeaderPort rest room)).led)
   finish (symbols.Expect mark ∷ rest) k n b m h s r d room =
       let t = tokens.Mark mark in
       let before : Reader = on (symbols.Expect mark ∷ rest) m in
       let goes : step t k before ≡ Goes (on rest m) =
-          ap (take_token t k) (settled_calm before (is_bracket t) (symbols.Expect mark ∷ rest) refl)
-          ∙ ap (λ c. produced (symbols.Expect mark) rest t k before (on_expected c)) (same_mark mark) in
+      ap (take_token t k) (settled_calm before (is_bracket t) (symbols.Expect mark ∷ rest) refl)
+      ∙ ap (λ c. produced (symbols.Expect mark) rest t k before (on_expected c)) (same_mark mark) in
       first k b t before (on rest m) goes refl h.0
-        (finish rest (after k t) n b m h.3 s (calm_ready rest m.value h.1) d (room_same n b (symbols.Expect mark) rest room)).led
+      (finish rest (after k t) n b m h.3 s (calm_ready rest m.value h.1) d (room_same n b (symbols.Expect mark) rest room)).led
   finish (symbols.Declared ∷ rest) k n b m h s r d room =
       name_at symbols.Declared k n b rest m refl (λ at id. refl) (λ at. refl) s (λ ports. d ports refl) (start_room (suc n) b rest (room_next n b symbols.Declared rest room))
-        (λ at u kept. finish rest at (suc n) b u h.3 kept (calm_ready rest u.value h.1) (directed_plain u.declaring rest u.draft.scope h.0) (room_next n b symbols.Declared rest room))
+      (λ at u kept. finish rest at (suc n) b u h.3 kept (calm_ready rest u.value h.1) (directed_plain u.declaring rest u.draft.scope h.0) (room_next n b symbols.Declared rest room))
   finish (symbols.Vector ∷ rest) k n b m h s r d room =
       name_at symbols.Vector k n b rest m refl (λ at id. refl) (λ at. refl) s (λ ports. d ports refl) (start_room (suc n) b rest (room_next n b symbols.Vector rest room))
-        (λ at u kept. finish rest at (suc n) b u h.3 kept (calm_ready rest u.value h.1) (directed_plain u.declaring rest u.draft.scope h.0) (room_next n b symbols.Vector rest room))
+      (λ at u kept. finish rest at (suc n) b u h.3 kept (calm_ready rest u.value h.1) (directed_plain u.declaring rest u.draft.scope h.0) (room_next n b symbols.Vector rest room))
   finish (symbols.DeclaredName ∷ rest) k n b m h s r d room =
       let named = declares m.declaring k n m.draft.scope s.names s.range (λ ports. d ports refl) in
       let t = tokens.Name named.id in
       let u : Reader = with_scope (on rest m) named.entries in
       let kept : State (suc n) u = record { names = named.good; modules = below_more n m.taken s.modules; left = s.left; range = s.range; subject = s.subject } in
       first k b t (on (symbols.DeclaredName ∷ rest) m) u (ap (scoped (on rest m)) named.goes) (lt_room named.id.0 (suc n) b named.under (start_room (suc n) b rest (room_next n b symbols.DeclaredName rest room))) refl
-        (finish rest (after k t) (suc n) b u h.3 kept (calm_ready rest u.value h.1) (directed_plain u.declaring rest u.draft.scope h.0) (room_next n b symbols.DeclaredName rest room)).led
+      (finish rest (after k t) (suc n) b u h.3 kept (calm_ready rest u.value h.1) (directed_plain u.declaring rest u.draft.scope h.0) (room_next n b symbols.DeclaredName rest room)).led
   finish (symbols.LeftBound ∷ rest) k n b m h s r d room =
       let bound = left_bound_for m.declaring n m.draft.scope rest s.names h.0 d in
       let t = tokens.Number (Some bound.0) in
       let u : Reader = record (on rest m) { declaring = record m.declaring { left = bound.0 } } in
       let kept : State n u = record { names = s.names; modules = s.modules; left = bound.1; range = s.range; subject = s.subject } in
       first k b t (on (symbols.LeftBound ∷ rest) m) u refl bound.1 refl
-        (finish rest (after k t) n b u h.3 kept (calm_ready rest u.value h.1) bound.2 (room_same n b symbols.LeftBound rest room)).led
+      (finish rest (after k t) n b u h.3 kept (calm_ready rest u.value h.1) bound.2 (room_same n b symbols.LeftBound rest room)).led
   finish (symbols.RightBound ∷ rest) k n b m h s r d room =
       let bound = right_bound_for m.declaring n m.draft.scope rest s.names d in
       let t = tokens.Number (Some bound.0) in
       let u : Reader = record (on rest m) { declaring = record m.declaring { range = Some (record { left = m.declaring.left; right = bound.0 }) } } in
       let kept : State n u = record { names = s.names; modules = s.modules; left = s.left; range = and_from (is_small m.declaring.left) (is_small bound.0) s.left bound.1; subject = s.subject } in
       first k b t (on (symbols.RightBound ∷ rest) m) u refl bound.1 refl
-        (finish rest (after k t) n b u h.2 kept (calm_ready rest u.value h.0) bound.2 (room_same n b symbols.RightBound rest room)).led
+      (finish rest (after k t) n b u h.2 kept (calm_ready rest u.value h.0) bound.2 (room_same n b symbols.RightBound rest room)).led
   finish (symbols.Items ∷ rest) k n b m h s r d room =
       items (lacking_count m.draft.scope) k n b rest m refl s (start_room n b rest (room_same n b symbols.Items rest room))
-        (λ at u kept. finish rest at n b u h.2 kept (calm_ready rest u.value h.1) (directed_plain u.declaring rest u.draft.scope h.0) (room_same n b symbols.Items rest room))
+      (λ at u kept. finish rest at n b u h.2 kept (calm_ready rest u.value h.1) (directed_plain u.declaring rest u.draft.scope h.0) (room_same n b symbols.Items rest room))
   finish (symbols.DeclaredMore ∷ rest) k n b m h s r d room =
       let t = tokens.Mark marks.Semicolon in
       let u : Reader = on rest m in
       let kept : State n u = record { names = s.names; modules = s.modules; left = s.left; range = s.range; subject = s.subject } in
       first k b t (on (symbols.DeclaredMore ∷ rest) m) u refl refl refl
-        (finish rest (after k t) n b u h.3 kept (calm_ready rest u.value h.1) (directed_plain u.declaring rest u.draft.scope h.0) (room_same n b symbols.DeclaredMore rest room)).led
+      (finish rest (after k t) n b u h.3 kept (calm_ready rest u.value h.1) (directed_plain u.declaring rest u.draft.scope h.0) (room_same n b symbols.DeclaredMore rest room)).led
   finish (symbols.InstanceName ∷ rest) k n b m h s r d room =
       let id : NameId = record { 0 = n } in
       let t = tokens.Name id in
@@ -638,27 +637,27 @@ module _ (after : ℕ → Token → ℕ) where
       let u : Reader = end_instance (on rest m2) in
       let kept : State (suc n) u = record { names = put_good (suc n) n (instance_entry k) m.draft.scope (under_next n) refl (good_more n m.draft.scope s.names); modules = below_more n m.taken s.modules; left = s.left; range = s.range; subject = s.subject } in
       first k b t (on (symbols.InstanceName ∷ rest) m) m2 (ap (λ o. and_then (scoped m1 (add_new m.draft.scope id (instance_entry k) o)) (λ x. Goes (begun_instance id x))) (none_there n m.draft.scope s.names.1)) (lt_start n b symbols.InstanceName rest room) refl
-        (one k2 b open_ m2 m3 refl refl
-          (one k3 b close m3 u refl refl
-            (finish rest (after k3 close) (suc n) b u h.3 kept (calm_ready rest u.value h.1) (directed_plain u.declaring rest u.draft.scope h.0) (room_next n b symbols.InstanceName rest room)).led))
+      (one k2 b open_ m2 m3 refl refl
+      (one k3 b close m3 u refl refl
+      (finish rest (after k3 close) (suc n) b u h.3 kept (calm_ready rest u.value h.1) (directed_plain u.declaring rest u.draft.scope h.0) (room_next n b symbols.InstanceName rest room)).led))
   finish (symbols.InstanceMore ∷ rest) k n b m h s r d room =
       let t = tokens.Mark marks.Semicolon in
       let u : Reader = on rest m in
       let kept : State n u = record { names = s.names; modules = s.modules; left = s.left; range = s.range; subject = s.subject } in
       first k b t (on (symbols.InstanceMore ∷ rest) m) u refl refl refl
-        (finish rest (after k t) n b u h.3 kept (calm_ready rest u.value h.1) (directed_plain u.declaring rest u.draft.scope h.0) (room_same n b symbols.InstanceMore rest room)).led
+      (finish rest (after k t) n b u h.3 kept (calm_ready rest u.value h.1) (directed_plain u.declaring rest u.draft.scope h.0) (room_same n b symbols.InstanceMore rest room)).led
   finish (symbols.Connections ∷ rest) k n b m h s r d room =
       let t = tokens.Mark marks.Close in
       let u : Reader = end_instance (on rest m) in
       let kept : State n u = record { names = s.names; modules = s.modules; left = s.left; range = s.range; subject = s.subject } in
       first k b t (on (symbols.Connections ∷ rest) m) u refl refl refl
-        (finish rest (after k t) n b u h.3 kept (calm_ready rest u.value h.1) (directed_plain u.declaring rest u.draft.scope h.0) (room_same n b symbols.Connections rest room)).led
+      (finish rest (after k t) n b u h.3 kept (calm_ready rest u.value h.1) (directed_plain u.declaring rest u.draft.scope h.0) (room_same n b symbols.Connections rest room)).led
   finish (symbols.NamedMore ∷ rest) k n b m h s r d room =
       let t = tokens.Mark marks.Close in
       let u : Reader = end_instance (on rest m) in
       let kept : State n u = record { names = s.names; modules = s.modules; left = s.left; range = s.range; subject = s.subject } in
       first k b t (on (symbols.NamedMore ∷ rest) m) u refl refl refl
-        (finish rest (after k t) n b u h.3 kept (calm_ready rest u.value h.1) (directed_plain u.declaring rest u.draft.scope h.0) (room_same n b symbols.NamedMore rest room)).led
+      (finish rest (after k t) n b u h.3 kept (calm_ready rest u.value h.1) (directed_plain u.declaring rest u.draft.scope h.0) (room_same n b symbols.NamedMore rest room)).led
   finish (symbols.ConnectionName ∷ rest) k n b m h s r d room =
       let id : NameId = record { 0 = n } in
       let t = tokens.Name id in
@@ -671,30 +670,30 @@ module _ (after : ℕ → Token → ℕ) where
       let u : Reader = end_named (on rest m2) in
       let kept : State n u = record { names = s.names; modules = s.modules; left = s.left; range = s.range; subject = s.subject } in
       first k b t (on (symbols.ConnectionName ∷ rest) m) m2 refl (lt_start n b symbols.ConnectionName rest room) refl
-        (one k2 b open_ m2 m3 refl refl
-          (one k3 b close m3 u refl refl
-            (finish rest (after k3 close) n b u h.3 kept (calm_ready rest u.value h.1) (directed_plain u.declaring rest u.draft.scope h.0) (room_same n b symbols.ConnectionName rest room)).led))
+      (one k2 b open_ m2 m3 refl refl
+      (one k3 b close m3 u refl refl
+      (finish rest (after k3 close) n b u h.3 kept (calm_ready rest u.value h.1) (directed_plain u.declaring rest u.draft.scope h.0) (room_same n b symbols.ConnectionName rest room)).led))
   finish (symbols.NamedValue ∷ rest) k n b m h s r d room =
       let t = tokens.Mark marks.Close in
       let u : Reader = end_named (on rest m) in
       let kept : State n u = record { names = s.names; modules = s.modules; left = s.left; range = s.range; subject = s.subject } in
       first k b t (on (symbols.NamedValue ∷ rest) m) u refl refl refl
-        (finish rest (after k t) n b u h.3 kept (calm_ready rest u.value h.1) (directed_plain u.declaring rest u.draft.scope h.0) (room_same n b symbols.NamedValue rest room)).led
+      (finish rest (after k t) n b u h.3 kept (calm_ready rest u.value h.1) (directed_plain u.declaring rest u.draft.scope h.0) (room_same n b symbols.NamedValue rest room)).led
   finish (symbols.NamedEnd ∷ rest) k n b m h s r d room =
       let t = tokens.Mark marks.Close in
       let u : Reader = end_named (on rest m) in
       let kept : State n u = record { names = s.names; modules = s.modules; left = s.left; range = s.range; subject = s.subject } in
       first k b t (on (symbols.NamedEnd ∷ rest) m) u refl refl refl
-        (finish rest (after k t) n b u h.3 kept (calm_ready rest u.value h.1) (directed_plain u.declaring rest u.draft.scope h.0) (room_same n b symbols.NamedEnd rest room)).led
+      (finish rest (after k t) n b u h.3 kept (calm_ready rest u.value h.1) (directed_plain u.declaring rest u.draft.scope h.0) (room_same n b symbols.NamedEnd rest room)).led
   finish (symbols.OrderedMore ∷ rest) k n b m h s r d room =
       let t = tokens.Mark marks.Close in
       let u : Reader = end_instance (end_ordered (on rest m)) in
       let kept : State n u = record { names = s.names; modules = s.modules; left = s.left; range = s.range; subject = s.subject } in
       first k b t (on (symbols.OrderedMore ∷ rest) m) u refl refl refl
-        (finish rest (after k t) n b u h.3 kept (calm_ready rest u.value h.1) (directed_plain u.declaring rest u.draft.scope h.0) (room_same n b symbols.OrderedMore rest room)).led
+      (finish rest (after k t) n b u h.3 kept (calm_ready rest u.value h.1) (directed_plain u.declaring rest u.draft.scope h.0) (room_same n b symbols.OrderedMore rest room)).led
   finish (symbols.Value ∷ rest) k n b m h s r d room =
       value_at k n b rest m s h.1 h.2 (lt_start n b symbols.Value rest room)
-        (λ at u kept. finish rest at (suc n) b u h.3 kept (calm_ready rest u.value h.1) (directed_plain u.declaring rest u.draft.scope h.0) (room_next n b symbols.Value rest room))
+      (λ at u kept. finish rest at (suc n) b u h.3 kept (calm_ready rest u.value h.1) (directed_plain u.declaring rest u.draft.scope h.0) (room_next n b symbols.Value rest room))
   finish (symbols.Tail ∷ rest) k n b m h s r d room =
       let u : Reader = with_value m (Steps.value_whole m.value) in
       let kept : State n u = record { names = s.names; modules = s.modules; left = s.left; range = s.range; subject = s.subject } in
@@ -704,31 +703,31 @@ module _ (after : ℕ → Token → ℕ) where
       let u : Reader = on rest m in
       let kept : State n u = record { names = s.names; modules = s.modules; left = s.left; range = s.range; subject = s.subject } in
       first k b t (on (symbols.ConcatMore ∷ rest) m) u refl refl refl
-        (finish rest (after k t) n b u h.3 kept (calm_ready rest u.value h.1) (directed_plain u.declaring rest u.draft.scope h.0) (room_same n b symbols.ConcatMore rest room)).led
+      (finish rest (after k t) n b u h.3 kept (calm_ready rest u.value h.1) (directed_plain u.declaring rest u.draft.scope h.0) (room_same n b symbols.ConcatMore rest room)).led
   finish (symbols.Index ∷ rest) k n b m h s r d room =
       index_at k b rest m m.value.range refl r s.subject
-        (λ at u v is in_range. finish rest at n b u h.2 (record { names = subst (Good n) (sym is.0) s.names; modules = subst (λ x. below n x ≡ true) (sym is.1) s.modules; left = subst (λ x. is_small x.left ≡ true) (sym is.2) s.left; range = subst (λ x. small x.range ≡ true) (sym is.2) s.range; subject = subst (λ x. small x ≡ true) (sym is.3) s.subject }) (index_ready rest u.value in_range) (directed_plain u.declaring rest u.draft.scope h.0) (room_same n b symbols.Index rest room))
+      (λ at u v is in_range. finish rest at n b u h.2 (record { names = subst (Good n) (sym is.0) s.names; modules = subst (λ x. below n x ≡ true) (sym is.1) s.modules; left = subst (λ x. is_small x.left ≡ true) (sym is.2) s.left; range = subst (λ x. small x.range ≡ true) (sym is.2) s.range; subject = subst (λ x. small x ≡ true) (sym is.3) s.subject }) (index_ready rest u.value in_range) (directed_plain u.declaring rest u.draft.scope h.0) (room_same n b symbols.Index rest room))
   finish (symbols.IndexMore ∷ rest) k n b m h s r d room =
       let t = tokens.Mark marks.CloseBracket in
       let u : Reader = with_value (on rest m) (Steps.value_one m.value) in
       let kept : State n u = record { names = s.names; modules = s.modules; left = s.left; range = s.range; subject = s.subject } in
       first k b t (on (symbols.IndexMore ∷ rest) m) u refl refl refl
-        (finish rest (after k t) n b u h.3 kept (calm_ready rest u.value h.1) (directed_plain u.declaring rest u.draft.scope h.0) (room_same n b symbols.IndexMore rest room)).led
+      (finish rest (after k t) n b u h.3 kept (calm_ready rest u.value h.1) (directed_plain u.declaring rest u.draft.scope h.0) (room_same n b symbols.IndexMore rest room)).led
   finish (symbols.SecondIndex ∷ rest) k n b m h s r d room =
       second_at k b rest m m.value.range refl r s.subject
-        (λ at u is. finish rest at n b u h.3 (record { names = subst (Good n) (sym is.0) s.names; modules = subst (λ x. below n x ≡ true) (sym is.1) s.modules; left = subst (λ x. is_small x.left ≡ true) (sym is.2) s.left; range = subst (λ x. small x.range ≡ true) (sym is.2) s.range; subject = subst (λ x. small x ≡ true) (sym is.3) s.subject }) (calm_ready rest u.value h.1) (directed_plain u.declaring rest u.draft.scope h.0) (room_same n b symbols.SecondIndex rest room))
+      (λ at u is. finish rest at n b u h.3 (record { names = subst (Good n) (sym is.0) s.names; modules = subst (λ x. below n x ≡ true) (sym is.1) s.modules; left = subst (λ x. is_small x.left ≡ true) (sym is.2) s.left; range = subst (λ x. small x.range ≡ true) (sym is.2) s.range; subject = subst (λ x. small x ≡ true) (sym is.3) s.subject }) (calm_ready rest u.value h.1) (directed_plain u.declaring rest u.draft.scope h.0) (room_same n b symbols.SecondIndex rest room))
   finish (symbols.AssignSign ∷ rest) k n b m h s r d room =
       let t = tokens.Mark marks.Equals in
       let u : Reader = end_left (on rest m) in
       let kept : State n u = record { names = s.names; modules = s.modules; left = s.left; range = s.range; subject = s.subject } in
       first k b t (on (symbols.AssignSign ∷ rest) m) u refl refl refl
-        (finish rest (after k t) n b u h.3 kept (calm_ready rest u.value h.1) (directed_plain u.declaring rest u.draft.scope h.0) (room_same n b symbols.AssignSign rest room)).led
+      (finish rest (after k t) n b u h.3 kept (calm_ready rest u.value h.1) (directed_plain u.declaring rest u.draft.scope h.0) (room_same n b symbols.AssignSign rest room)).led
   finish (symbols.AssignMore ∷ rest) k n b m h s r d room =
       let t = tokens.Mark marks.Semicolon in
       let u : Reader = end_assign (on rest m) in
       let kept : State n u = record { names = s.names; modules = s.modules; left = s.left; range = s.range; subject = s.subject } in
       first k b t (on (symbols.AssignMore ∷ rest) m) u refl refl refl
-        (finish rest (after k t) n b u h.3 kept (calm_ready rest u.value h.1) (directed_plain u.declaring rest u.draft.scope h.0) (room_same n b symbols.AssignMore rest room)).led
+      (finish rest (after k t) n b u h.3 kept (calm_ready rest u.value h.1) (directed_plain u.declaring rest u.draft.scope h.0) (room_same n b symbols.AssignMore rest room)).led
 
   -- tokens lead from each state that is sound, and where a direction is being given some port can take it, to the end of a text
   pub goes_on : (k n b : ℕ) (m : Reader) → Sound n m → Directed m.declaring m.waiting m.draft.scope → n + length m.waiting ≤ b → Led k b m

@@ -1,9 +1,9 @@
 -- The place of a fault is the first at which the text leaves the netlists.
-use Rattle.std.proofs.Common.{◌≡◌, ℕ, zero, suc, ◌+◌, ◌*◌, ◌-◌, ◌≤◌, ◌<◌, ◌⊎◌, inl, inr, Bool, true, false, List, [], ◌∷◌, ◌++◌, map, length, take, drop, Option, Some, None, refl, sym, ap, ◌∙◌, subst, arith, append_assoc}
-use Rattle.std.specs.Prelude.{max, not, nat_lt, ◌&&◌, if◌then◌else◌}
+use Rattle.std.proofs.Common.{◌≡◌, ℕ, ◌+◌, ◌-◌, ◌≤◌, ◌⊎◌, inl, inr, Bool, true, false, List, [], ◌∷◌, ◌++◌, map, length, drop, Some, None, refl, sym, ap, ◌∙◌, subst, arith}
+use Rattle.std.specs.Prelude.{not, ◌&&◌}
 use Rattle.std.specs.List.{list_any}
 use Rattle.std.proofs.lemmas.Bool.{true≢false}
-use Rattle.std.proofs.lemmas.List.{length-append, append-nil}
+use Rattle.std.proofs.lemmas.List.{length-append}
 use Rattle.lp_text.specs.Texts.{distinct}
 use Rattle.lp_place.specs.Leaving.{Leaves}
 use Rattle.lp_model.specs.declared.netlist.Module.{Module}
@@ -11,26 +11,22 @@ use Rattle.lp_model.specs.NetlistView.{module_view}
 use Rattle.lp_verilog_tokens.specs.Cutting.{Lexeme, Named, Plain, Piece, piece_of}
 use Rattle.lp_verilog_draft.specs.declared.stop.Off.{Off}
 use Rattle.lp_verilog_draft.specs.declared.stop.Off.TheVariants as offs
-use Rattle.lp_verilog_draft.specs.Verdicts.{Verdict, Goes, Stops}
-use Rattle.lp_verilog_draft.specs.Scopes.{Entries}
-use Rattle.lp_verilog_draft.specs.declared.declaring.Form.{Form}
-use Rattle.lp_verilog_grammar.specs.declared.symbol.Symbol.{Symbol}
+use Rattle.lp_verilog_draft.specs.Verdicts.{Stops}
 use Rattle.lp_verilog_grammar.specs.declared.reader.Reader.{Reader}
 use Rattle.lp_verilog_grammar.specs.Machine.{start, step, accepts}
 use Rattle.lp_verilog.specs.Reading.{Outcome, Whole, Left, ending, behind, piece_bytes, read_rest}
 use Rattle.lp_verilog.specs.Denotes.{numbered, is_known, Follows, Leads, LeadsTo}
-use Rattle.lp_verilog.specs.Reads.{Reads}
-use Rattle.lp_verilog.specs.Places.{Cuts, IsNetlist, bytes_of, is_ports, plain, can_take, is_stuck, Begins, IsStuck, At, FirstFault}
+use Rattle.lp_verilog.specs.Places.{Cuts, IsNetlist, is_ports, plain, can_take, is_stuck, IsStuck, FirstFault}
 use Rattle.lp_verilog.proofs.Found.{found, grown_same}
 use Rattle.lp_verilog.proofs.Across.{renumber, renumber_apart, same_number, oc, moved_from_start}
 use Rattle.lp_verilog.proofs.Unique.{begun, both, covers_left, covers_right}
-use Rattle.lp_verilog.proofs.Renaming.{md, rd, tk, vd, off}
+use Rattle.lp_verilog.proofs.Renaming.{md, rd, vd, off}
 use Rattle.lp_verilog.proofs.Renamed.{step_same}
-use Rattle.lp_verilog.proofs.States.{Sound, start_sound}
+use Rattle.lp_verilog.proofs.States.{start_sound}
 use Rattle.lp_verilog.proofs.Ending.{Led, Directed, goes_on}
 use Rattle.lp_verilog.proofs.Spelling.{take_front, drop_front}
-use Rattle.lp_verilog.proofs.Tabled.{Table, extended, Clean, reading_clean}
-use Rattle.lp_verilog.proofs.Fronts.{Through, Fault, AtToken, AtEnd, split, Reached, reached, respell, spell, Past, past, moved_through}
+use Rattle.lp_verilog.proofs.Tabled.{extended, Clean, reading_clean}
+use Rattle.lp_verilog.proofs.Fronts.{Through, Fault, AtToken, AtEnd, split, reached, respell, spell, Past, past, moved_through}
 use Rattle.lp_verilog.proofs.Leaving.{words, pieces_of, after, words_lead, leads_cut, one_cut, through_begins, through_cuts, through_from, through_grown}
 
 not_stuck : (a b c : Bool) → (a && (not b && not c)) ≡ false → a ≡ true → b ≡ false → c ≡ true
@@ -83,18 +79,20 @@ module _ (names : List (List ℕ)) (text : List ℕ) (clean : Clean names (lengt
       let more = pieces_of table go.rest in
       let through2 = through_grown names table t.grown (length text) front true text start fresh2 rest2 m2 through in
       let leads : Leads table (length new) (front ++ more) true new start (Whole go.last.modules) =
-          spell table (length text) front true text start fresh2 rest2 m2 tail (length new) more (Whole go.last.modules) through2 (omega arith) (omega arith) (omega arith)
-            (λ f same within. words_lead table t.apart t.all (length new) go.rest k f m2 go.last go.goes go.accepted go.spelled (ap (λ n. n + 1) same) within) in
+      spell table (length text) front true text start fresh2 rest2 m2 tail (length new) more (Whole go.last.modules) through2 (omega arith) (omega arith) (omega arith)
+      (λ f same within. words_lead table t.apart t.all (length new) go.rest k f m2 go.last go.goes go.accepted go.spelled (ap (λ n. n + 1) same) within) in
       let waits = r.waits in
       let many = r.many in
       let less = clean.few in
-      let one_waits : length start.waiting ≡ 1 = refl in
-      (more, record {
-        text = new;
-        view = map (module_view table) go.last.modules;
-        cuts = leads_cut table (length new) (front ++ more) true new start go.last.modules leads;
-        reads = record { names = table; modules = go.last.modules; apart = t.apart; few = omega (arith, long, waits, many, less, short, one_waits); denotes = record { tokens = front ++ more; leads = leads }; seen = refl };
-      })
+      let one_waits : length start.waiting ≡ 1 = refl in (
+        more,
+        record {
+          text = new;
+          view = map (module_view table) go.last.modules;
+          cuts = leads_cut table (length new) (front ++ more) true new start go.last.modules leads;
+          reads = record { names = table; modules = go.last.modules; apart = t.apart; few = omega (arith, long, waits, many, less, short, one_waits); denotes = record { tokens = front ++ more; leads = leads }; seen = refl };
+        },
+      )
 
   -- other texts with the same tokens come to the same state
   pub record Elsewhere (rest2 : List ℕ) (m2 : Reader) (ys : List Piece) : Type 0 where
@@ -127,9 +125,9 @@ module _ (names : List (List ℕ)) (text : List ℕ) (clean : Clean names (lengt
         modules = map (md theirs) reads.modules;
         past = past all (length text) front true text (rd mine start) fresh2 rest2 (rd mine m2) (length other) other ys (map (md theirs) reads.modules) through2 (omega arith) (omega arith) (omega arith) leads;
         steps = λ l at f known stops.
-          ap (λ t. step t at (rd mine m2)) (same_number names all clean.apart l known (known_there l known))
-          ∙ step_same mine (renumber_apart names all clean.apart) (numbered names l) at m2
-          ∙ ap (vd mine (rd mine)) stops;
+            ap (λ t. step t at (rd mine m2)) (same_number names all clean.apart l known (known_there l known))
+            ∙ step_same mine (renumber_apart names all clean.apart) (numbered names l) at m2
+            ∙ ap (vd mine (rd mine)) stops;
       }
     where
       known_there : (l : Lexeme) → is_known names l ≡ true → is_known (names ++ k.reads.names) l ≡ true
@@ -193,8 +191,8 @@ module _ (text : List ℕ) (at : ℕ) (short : length text ≤ 67108864) (o : Ow
             within = omega (arith, sum);
             before = (done.0, subst (λ xs. IsNetlist (xs ++ done.0)) (sym (take_front front (p ∷ []))) done.1);
             here = λ t rest is more k.
-              let next : p ≡ t = same_next p t [] rest (sym (behind_all front (p ∷ [])) ∙ is) in
-              never more (subst (λ x. IsNetlist (front ++ x ∷ more)) (sym next) (subst (λ xs. IsNetlist (xs ++ t ∷ more)) (take_front front (p ∷ [])) k));
+                let next : p ≡ t = same_next p t [] rest (sym (behind_all front (p ∷ [])) ∙ is) in
+                never more (subst (λ x. IsNetlist (front ++ x ∷ more)) (sym next) (subst (λ xs. IsNetlist (xs ++ t ∷ more)) (take_front front (p ∷ [])) k));
             ended = λ is k. some_left (sym (behind_all front (p ∷ [])) ∙ is);
           })
         where

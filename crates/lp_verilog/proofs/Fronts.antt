@@ -1,27 +1,25 @@
 -- The tokens that a text begins with, and the state to which they lead.
-use Rattle.std.proofs.Common.{◌≡◌, ℕ, zero, suc, ◌+◌, ◌*◌, ◌-◌, ◌≤◌, ◌<◌, ◌⊎◌, inl, inr, Bool, true, false, List, [], ◌∷◌, ◌++◌, length, take, drop, Option, Some, None, refl, sym, ap, ◌∙◌, subst, arith, append_assoc}
+use Rattle.std.proofs.Common.{◌≡◌, ℕ, zero, suc, ◌+◌, ◌*◌, ◌-◌, ◌≤◌, ◌<◌, inl, inr, Bool, true, false, List, [], ◌∷◌, ◌++◌, length, take, drop, Some, None, refl, sym, ap, ◌∙◌, subst, arith}
 use Rattle.std.specs.Prelude.{max, nat_lt, unwrap_or, if◌then◌else◌}
-use Rattle.std.proofs.lemmas.Bool.{true≢false, and_parts, and_from}
+use Rattle.std.proofs.lemmas.Bool.{true≢false}
 use Rattle.std.proofs.lemmas.Bool.Decides.{nat_tests}
 use Rattle.std.proofs.lemmas.List.{length-append, length-drop}
-use Rattle.lp_text.specs.Texts.{place_of, has_text, place_of-Some, is_some-place_of, distinct}
+use Rattle.lp_text.specs.Texts.{place_of-Some, distinct}
 use Rattle.lp_model.specs.declared.netlist.Module.{Module}
-use Rattle.lp_verilog_tokens.specs.declared.token.Token.{Token}
 use Rattle.lp_verilog_tokens.specs.declared.token.Token.TheVariants as tokens
 use Rattle.lp_verilog_tokens.specs.Cutting.{Lexeme, Named, Plain, Piece, piece_of}
 use Rattle.lp_verilog_draft.specs.declared.stop.Off.{Off}
 use Rattle.lp_verilog_draft.specs.declared.stop.Off.TheVariants as offs
 use Rattle.lp_verilog_draft.specs.Verdicts.{Verdict, Goes, Stops}
 use Rattle.lp_verilog_grammar.specs.declared.reader.Reader.{Reader}
-use Rattle.lp_verilog_grammar.specs.Machine.{start, step, accepts}
-use Rattle.lp_verilog.specs.Reading.{Outcome, Whole, Left, ending, behind, piece_bytes}
+use Rattle.lp_verilog_grammar.specs.Machine.{step, accepts}
+use Rattle.lp_verilog.specs.Reading.{Outcome, Whole, Left, behind, piece_bytes}
 use Rattle.lp_verilog.specs.Denotes.{numbered, is_known, Follows, Leads}
 use Rattle.lp_verilog.specs.Places.{bytes_of}
 use Rattle.lp_verilog.proofs.Across.{has_place, Covers, same_number, renumber, renumber_apart}
-use Rattle.lp_verilog.proofs.Renaming.{rd, tk, vd}
+use Rattle.lp_verilog.proofs.Renaming.{rd, vd}
 use Rattle.lp_verilog.proofs.Renamed.{step_same}
-use Rattle.lp_verilog.proofs.Shapes.{is_small}
-use Rattle.lp_verilog.proofs.States.{token_ok, Sound, Held, step_sound, step_few, step_stands, start_sound}
+use Rattle.lp_verilog.proofs.States.{token_ok, Sound, Held, step_sound, step_few, step_stands}
 use Rattle.lp_verilog.proofs.Spelling.{Like, may_stand, Bytes, token_bytes, take_front, drop_front}
 use Rattle.lp_verilog.proofs.Pieces.{fine, Stands, stands_there, piece_fine, blanks, blanks_length, drop_blanks, made_piece}
 

@@ -1,8 +1,8 @@
 -- A netlist stays the same when the table of its names has grown.
-use Rattle.std.proofs.Common.{◌≡◌, ℕ, ◌+◌, ◌-◌, ◌≤◌, Bool, true, false, List, [], ◌∷◌, ◌++◌, map, length, refl, sym, ap, ◌∙◌, subst, arith}
-use Rattle.std.specs.Prelude.{unwrap_or, ◌||◌}
+use Rattle.std.proofs.Common.{◌≡◌, ℕ, ◌+◌, ◌-◌, ◌≤◌, Bool, true, false, List, [], ◌∷◌, map, length, refl, sym, ap, ◌∙◌, subst, arith}
+use Rattle.std.specs.Prelude.{unwrap_or}
 use Rattle.std.proofs.lemmas.List.{length-append}
-use Rattle.lp_text.specs.Texts.{Grown, distinct, distinct-append_left, place_of, has_text, has_text-append, place_of-append_left}
+use Rattle.lp_text.specs.Texts.{Grown, distinct, distinct-append_left, place_of, has_text, place_of-append_left}
 use Rattle.lp_model.specs.declared.netlist.Module.{Module}
 use Rattle.lp_model.specs.NetlistView.{module_view}
 use Rattle.lp_verilog_tokens.specs.declared.token.Token.TheVariants as tokens
@@ -11,7 +11,7 @@ use Rattle.lp_verilog_tokens.specs.Cutting.{Lexeme, Named, Plain, Piece}
 use Rattle.lp_verilog_draft.specs.Verdicts.{Verdict, Goes, Stops}
 use Rattle.lp_verilog_grammar.specs.Machine.{start, step}
 use Rattle.lp_verilog.specs.Reading.{Outcome, Whole, behind, piece_bytes}
-use Rattle.lp_verilog.specs.Denotes.{numbered, is_known, Follows, Leads, LeadsTo, Denotes}
+use Rattle.lp_verilog.specs.Denotes.{numbered, is_known, Follows, Leads, Denotes}
 use Rattle.lp_verilog.specs.Reads.{Reads}
 use Rattle.lp_verilog.proofs.Across.{has_place}
 use Rattle.lp_verilog.proofs.Unique.{one_view, covers_left}

@@ -1,41 +1,30 @@
 -- Where the reader stops, the text leaves the netlists.
-use Rattle.std.proofs.Common.{◌≡◌, ℕ, zero, suc, ◌+◌, ◌*◌, ◌-◌, ◌≤◌, ◌<◌, ◌⊎◌, inl, inr, Bool, true, false, List, [], ◌∷◌, ◌++◌, map, length, take, drop, Option, Some, None, refl, sym, ap, ◌∙◌, subst, arith, append_assoc}
-use Rattle.std.specs.Prelude.{max, not, nat_lt, unwrap_or, ◌&&◌, if◌then◌else◌}
-use Rattle.std.specs.List.{list_all, list_any}
-use Rattle.std.proofs.lemmas.Bool.{true≢false, and_parts, and_from}
+use Rattle.std.proofs.Common.{◌≡◌, ℕ, ◌+◌, ◌-◌, ◌≤◌, ◌<◌, Bool, true, false, List, [], ◌∷◌, ◌++◌, length, drop, Option, Some, None, refl, sym, ap, ◌∙◌, subst, arith}
+use Rattle.std.specs.Prelude.{max, nat_lt, unwrap_or}
+use Rattle.std.specs.List.{list_all}
+use Rattle.std.proofs.lemmas.Bool.{true≢false, and_parts}
 use Rattle.std.proofs.lemmas.Bool.Decides.{nat_tests}
-use Rattle.std.proofs.lemmas.List.{length-append, append-nil}
-use Rattle.lp_text.specs.Texts.{Grown, text_at, distinct, place_of, place_of-distinct, has_text-at}
-use Rattle.lp_place.specs.Leaving.{Leaves}
+use Rattle.std.proofs.lemmas.List.{length-append}
+use Rattle.lp_text.specs.Texts.{Grown, distinct, place_of-distinct, has_text-at}
 use Rattle.lp_model.specs.declared.netlist.Module.{Module}
-use Rattle.lp_model.specs.NetlistView.{module_view}
 use Rattle.lp_verilog_tokens.specs.declared.token.Token.{Token}
 use Rattle.lp_verilog_tokens.specs.declared.token.Token.TheVariants as tokens
 use Rattle.lp_verilog_tokens.specs.declared.token.Keyword.TheVariants as keywords
 use Rattle.lp_verilog_tokens.specs.Lexical.{is_blank}
-use Rattle.lp_verilog_tokens.specs.Cutting.{Lexeme, Named, Plain, Piece, piece_of}
-use Rattle.lp_verilog_draft.specs.declared.stop.Off.{Off}
-use Rattle.lp_verilog_draft.specs.declared.stop.Off.TheVariants as offs
+use Rattle.lp_verilog_tokens.specs.Cutting.{Piece, piece_of}
 use Rattle.lp_verilog_draft.specs.Verdicts.{Verdict, Goes, Stops, and_then}
 use Rattle.lp_verilog_grammar.specs.declared.reader.Reader.{Reader}
-use Rattle.lp_verilog_grammar.specs.Machine.{start, step, accepts}
-use Rattle.lp_verilog.specs.Reading.{Outcome, Whole, Left, ending, behind, piece_bytes, read_rest}
-use Rattle.lp_verilog.specs.Denotes.{numbered, is_known, Follows, Leads, LeadsTo}
-use Rattle.lp_verilog.specs.Reads.{Reads}
-use Rattle.lp_verilog.specs.Places.{Cuts, IsNetlist, bytes_of, is_ports, plain, can_take, is_stuck, Begins, LeadsFrom, IsStuck, At, FirstFault}
-use Rattle.lp_verilog.proofs.Found.{found, grown_same}
-use Rattle.lp_verilog.proofs.Across.{renumber, renumber_apart, same_number, oc, moved_from_start}
-use Rattle.lp_verilog.proofs.Unique.{begun, both, covers_left, covers_right}
+use Rattle.lp_verilog_grammar.specs.Machine.{step, accepts}
+use Rattle.lp_verilog.specs.Reading.{Whole, ending, behind, piece_bytes}
+use Rattle.lp_verilog.specs.Denotes.{numbered, is_known, Follows, Leads}
+use Rattle.lp_verilog.specs.Places.{Cuts, Begins, LeadsFrom}
 use Rattle.lp_verilog.proofs.Growing.{known_still, number_still}
-use Rattle.lp_verilog.proofs.Renaming.{rd, tk, vd}
-use Rattle.lp_verilog.proofs.Renamed.{step_same}
-use Rattle.lp_verilog.proofs.States.{Sound, start_sound}
-use Rattle.lp_verilog.proofs.Ending.{run, spelled_ok, Led, Directed, goes_on}
-use Rattle.lp_verilog.proofs.Spelling.{take_front, drop_front}
+use Rattle.lp_verilog.proofs.Ending.{run, spelled_ok}
+use Rattle.lp_verilog.proofs.Spelling.{drop_front}
 use Rattle.lp_verilog.proofs.Pieces.{nameable}
 use Rattle.lp_verilog.proofs.Words.{spelled, lexeme_of, token_piece}
-use Rattle.lp_verilog.proofs.Tabled.{Table, extended, nameable_at, Clean, reading_clean}
-use Rattle.lp_verilog.proofs.Fronts.{Through, Fault, AtToken, AtEnd, split, Reached, reached, respell, spell, Past, past, moved_through}
+use Rattle.lp_verilog.proofs.Tabled.{nameable_at}
+use Rattle.lp_verilog.proofs.Fronts.{Through}
 
 -- ---- the tokens that lead to the end, as bytes
 

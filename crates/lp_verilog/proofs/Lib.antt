@@ -16,3 +16,4 @@ pub mod Tabled
 pub mod Fronts
 pub mod Leaving
 pub mod Faults
+pub mod Unread

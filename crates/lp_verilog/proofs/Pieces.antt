@@ -1,10 +1,9 @@
 -- The tokens of a text stand in other texts too: the same bytes, with blanks before them.
-use Rattle.std.proofs.Common.{◌≡◌, ℕ, zero, suc, ◌+◌, ◌≤◌, ◌⊎◌, inl, inr, Bool, true, false, List, [], ◌∷◌, ◌++◌, length, take, drop, Option, Some, None, refl, sym, ap, ◌∙◌, subst, arith, append_assoc}
-use Rattle.std.specs.Prelude.{cond, max, not, nat_lt, nat_le, ◌*◌, ◌-◌, ◌&&◌, ◌||◌, ◌==◌, if◌then◌else◌}
+use Rattle.std.proofs.Common.{◌≡◌, ℕ, zero, suc, ◌+◌, ◌⊎◌, inl, inr, Bool, true, false, List, [], ◌∷◌, ◌++◌, length, take, drop, Option, Some, None, refl, sym, ap, ◌∙◌, subst, arith}
+use Rattle.std.specs.Prelude.{cond, not, nat_lt, ◌*◌, ◌-◌, ◌&&◌, ◌||◌, ◌==◌, if◌then◌else◌}
 use Rattle.std.specs.List.{list_all, list_any, prefix_len}
-use Rattle.std.proofs.lemmas.Bool.{true≢false, and_parts, and_from}
+use Rattle.std.proofs.lemmas.Bool.{true≢false, and_from}
 use Rattle.std.proofs.lemmas.Bool.Decides.{nat_tests}
-use Rattle.std.proofs.lemmas.List.{take-append-drop}
 use Rattle.lp_text.specs.Texts.{has_text, same_text}
 use Rattle.lp_verilog_tokens.specs.declared.token.Token.{Token}
 use Rattle.lp_verilog_tokens.specs.declared.token.Token.TheVariants as tokens
@@ -15,11 +14,10 @@ use Rattle.lp_verilog_tokens.specs.declared.gap.GapMode.TheVariants.{Between, Op
 use Rattle.lp_verilog_tokens.specs.Lexical.{is_blank, is_lead, is_digit, is_inner, is_number_byte, is_constant_byte, is_visible}
 use Rattle.lp_verilog_tokens.specs.Constants.{number_of, number_behind, constant_of, constant_with, sized, fitted, base_of, are_digits, is_size, is_unknown, value_behind}
 use Rattle.lp_verilog_tokens.specs.Reserved.{reserved_words, reserved_token}
-use Rattle.lp_verilog_tokens.specs.Cutting.{Lexeme, Named, Plain, Front, Whole, Cut, Piece, word_lexeme, word_front, quoted_front, number_front, number_at, escaped_front, escaped_at, directive_front, mark_of, front_of, opened, opening, gap_step, within, closer, go_on, gap_behind, is_open, placed, piece_behind, piece_after, piece_of}
+use Rattle.lp_verilog_tokens.specs.Cutting.{Lexeme, Named, Plain, Front, Whole, Cut, Piece, word_lexeme, word_front, quoted_front, number_front, number_at, escaped_front, escaped_at, directive_front, mark_of, front_of, gap_step, within, closer, go_on, gap_behind, is_open, placed, piece_behind, piece_after, piece_of}
 use Rattle.lp_verilog_tokens.proofs.Visible.{inner_visible, front_passes}
-use Rattle.lp_verilog.specs.Reading.{behind}
 use Rattle.lp_verilog.proofs.Shapes.{is_small}
-use Rattle.lp_verilog.proofs.Spelling.{Like, may_stand, Bytes, token_bytes, drop_front, take_front, lead_inner}
+use Rattle.lp_verilog.proofs.Spelling.{may_stand, drop_front, lead_inner}
 
 -- ---- what names and numbers of a text are
 
@@ -94,7 +92,7 @@ constant_fine size [] = refl
 constant_fine [] (b ∷ digits) = either_fine (nat_lt 0 (base_of b) && are_digits (base_of b) digits) tokens.Unread refl
 constant_fine (d ∷ size) (b ∷ digits) =
     either_fine (nat_lt 0 (base_of b) && are_digits (base_of b) digits) (constant_with (d ∷ size) (base_of b) digits)
-      (either_fine (not (d == 48) && is_size (number_of (d ∷ size))) (sized (base_of b) digits (number_of (d ∷ size))) (sized_fine (base_of b) digits (number_of (d ∷ size))))
+    (either_fine (not (d == 48) && is_size (number_of (d ∷ size))) (sized (base_of b) digits (number_of (d ∷ size))) (sized_fine (base_of b) digits (number_of (d ∷ size))))
 
 word_fine : (b : ℕ) (w : List ℕ) → list_all is_inner (b ∷ w) ≡ true → fine (word_lexeme (b ∷ w)) ≡ true
 word_fine b w h = by (has_text (b ∷ w) reserved_words)
@@ -217,24 +215,27 @@ cut_bad p end gap stands e =
     let same : placed end gap Cut ≡ p = cc in
     absurd (true≢false (sym stands ∙ ap (λ (q : Piece). may_stand q.lexeme) (sym same)))
 
-pub stands_there : (fresh : Bool) (rest : List ℕ) (p : Piece) → piece_of fresh rest ≡ Some p → may_stand p.lexeme ≡ true → Stands rest p
-stands_there fresh rest p e stands = by (gap_behind (Between fresh) 0 rest) refl e
+pub stands_if : (fresh : Bool) (rest : List ℕ) (p : Piece) → piece_of fresh rest ≡ Some p → ((end gap : ℕ) → Some (placed end gap Cut) ≡ Some p → ⊥) → Stands rest p
+stands_if fresh rest p e whole_token = by (gap_behind (Between fresh) 0 rest) refl e
   where
     whole : (g : ℕ) (f : Bool) (b : ℕ) (more : List ℕ) → drop g rest ≡ b ∷ more → gap_step (Between f) b more ≡ None → (front : Front) → front_of b more ≡ front → Some (placed (length rest) g front) ≡ Some p → Stands rest p
-    whole g f b more there none Cut at h = absurd (cut_bad p (length rest) g stands h)
+    whole g f b more there none Cut at h = absurd (whole_token (length rest) g h)
     whole g f b more there none (Whole size lexeme) at h =
         let same : placed (length rest) g (Whole size lexeme) ≡ p = cc in
         subst (Stands rest) same (record { fresh = f; first = b; more = more; there = there; none = none; front = at })
 
     at_gap : (g : ℕ) → Gap rest 0 g → piece_behind (length rest) g (drop g rest) ≡ Some p → Stands rest p
     at_gap g k h = elim k.left [
-        | inl end ↦ (let is : drop g rest ≡ [] = ap (λ i. drop i rest) (k.is ∙ omega arith) ∙ end in let no_piece : None ≡ Some p = ap (piece_behind (length rest) g) (sym is) ∙ h in absurd cc)
-        | inr at ↦ (let is : drop g rest ≡ at.1 ∷ at.2 = ap (λ i. drop i rest) (k.is ∙ omega arith) ∙ at.3 in whole g at.0 at.1 at.2 is at.4 (front_of at.1 at.2) refl (ap (piece_behind (length rest) g) (sym is) ∙ h))
-      ]
+      | inl end ↦ (let is : drop g rest ≡ [] = ap (λ i. drop i rest) (k.is ∙ omega arith) ∙ end in let no_piece : None ≡ Some p = ap (piece_behind (length rest) g) (sym is) ∙ h in absurd cc)
+      | inr at ↦ (let is : drop g rest ≡ at.1 ∷ at.2 = ap (λ i. drop i rest) (k.is ∙ omega arith) ∙ at.3 in whole g at.0 at.1 at.2 is at.4 (front_of at.1 at.2) refl (ap (piece_behind (length rest) g) (sym is) ∙ h))
+    ]
 
     by : (o : Option ℕ) → gap_behind (Between fresh) 0 rest ≡ o → piece_after rest o ≡ Some p → Stands rest p
-    by None s h = absurd (cut_bad p (length rest) 0 stands h)
+    by None s h = absurd (whole_token (length rest) 0 h)
     by (Some g) s h = at_gap g (gap_stop (Between fresh) 0 rest g s) h
+
+pub stands_there : (fresh : Bool) (rest : List ℕ) (p : Piece) → piece_of fresh rest ≡ Some p → may_stand p.lexeme ≡ true → Stands rest p
+stands_there fresh rest p e stands = stands_if fresh rest p e (λ end gap. cut_bad p end gap stands)
 
 -- a piece that stands has bytes of its own
 pub piece_fine : (rest : List ℕ) (p : Piece) → Stands rest p → fine p.lexeme ≡ true

@@ -1,6 +1,6 @@
 -- What is waited for, and what holds of the state of a reader between tokens.
-use Rattle.std.proofs.Common.{◌≡◌, ℕ, suc, ◌+◌, ◌≤◌, Bool, true, false, List, [], ◌∷◌, ◌++◌, Option, Some, None, refl, sym, ap, ◌∙◌, subst, arith}
-use Rattle.std.specs.Prelude.{nat_eq, nat_lt, nat_le, cond, is_some, is_none, not, ◌&&◌, ◌||◌, ◌==◌, if◌then◌else◌}
+use Rattle.std.proofs.Common.{◌≡◌, ℕ, suc, ◌+◌, Bool, true, false, List, [], ◌∷◌, ◌++◌, Option, Some, None, refl, sym, ap, ◌∙◌, subst, arith}
+use Rattle.std.specs.Prelude.{nat_eq, nat_lt, nat_le, cond, not, ◌&&◌, ◌||◌, if◌then◌else◌}
 use Rattle.std.specs.List.{list_all, list_any}
 use Rattle.std.specs.Map.{lookup}
 use Rattle.indexmap.specs.IndexMap.{insert_entry}
@@ -14,17 +14,11 @@ use Rattle.lp_verilog_tokens.specs.declared.token.Keyword.TheVariants as keyword
 use Rattle.lp_verilog_tokens.specs.declared.token.Mark.TheVariants as marks
 use Rattle.lp_verilog_grammar.specs.declared.symbol.Symbol.{Symbol}
 use Rattle.lp_verilog_grammar.specs.declared.symbol.Symbol.TheVariants as symbols
-use Rattle.lp_verilog_draft.specs.declared.value.Value.{Value}
 use Rattle.lp_verilog_draft.specs.declared.scope.Entry.{Entry}
-use Rattle.lp_verilog_draft.specs.declared.declaring.Form.{Form}
-use Rattle.lp_verilog_draft.specs.declared.declaring.Form.TheVariants as forms
-use Rattle.lp_verilog_draft.specs.declared.declaring.Declaring.{Declaring}
 use Rattle.lp_verilog_draft.specs.Scopes.{Entries, lacks_direction, lacking_of}
-use Rattle.lp_verilog_draft.specs.Values.{is_in}
-use Rattle.lp_verilog_grammar.specs.declared.reader.Reader.{Reader}
 use Rattle.lp_verilog_grammar.specs.Grammar.{Production, production}
 use Rattle.lp_verilog_grammar.specs.Machine.{is_bracket, is_source}
-use Rattle.lp_verilog.specs.Places.{is_naming, plain}
+use Rattle.lp_verilog.specs.Places.{plain}
 
 -- ---- what is waited for
 

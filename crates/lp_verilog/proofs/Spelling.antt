@@ -1,17 +1,17 @@
 -- The bytes of a token spell it wherever they stand before a blank, or before the byte that stood behind them.
-use Rattle.std.proofs.Common.{◌≡◌, ℕ, zero, suc, ◌+◌, ◌≤◌, ◌⊎◌, inl, inr, Bool, true, false, List, [], ◌∷◌, ◌++◌, length, take, drop, Option, Some, None, refl, sym, ap, ◌∙◌, subst, arith, append_assoc}
-use Rattle.std.specs.Prelude.{cond, not, nat_lt, ◌&&◌, ◌||◌, ◌==◌, if◌then◌else◌}
+use Rattle.std.proofs.Common.{◌≡◌, ℕ, suc, ◌+◌, ◌⊎◌, inl, inr, Bool, true, false, List, [], ◌∷◌, ◌++◌, length, take, drop, Some, None, refl, sym, ap, ◌∙◌, subst, arith, append_assoc}
+use Rattle.std.specs.Prelude.{cond, nat_lt, ◌&&◌, ◌||◌, ◌==◌, if◌then◌else◌}
 use Rattle.std.specs.List.{list_all, prefix_len}
-use Rattle.std.proofs.lemmas.Bool.{true≢false, and_parts, and_from, or_parts, eqb-true, cases_Bool}
+use Rattle.std.proofs.lemmas.Bool.{true≢false, and_parts, and_from, eqb-true, cases_Bool}
 use Rattle.std.proofs.lemmas.Bool.Decides.{nat_tests}
-use Rattle.std.proofs.lemmas.List.{take-append-drop, append-nil}
+use Rattle.std.proofs.lemmas.List.{take-append-drop}
 use Rattle.lp_verilog_tokens.specs.declared.token.Token.{Token}
 use Rattle.lp_verilog_tokens.specs.declared.token.Token.TheVariants as tokens
 use Rattle.lp_verilog_tokens.specs.declared.gap.GapMode.TheVariants.{Between}
 use Rattle.lp_verilog_tokens.specs.declared.gap.Inside.TheVariants as insides
 use Rattle.lp_verilog_tokens.specs.Lexical.{is_blank, is_lead, is_digit, is_inner, is_number_byte, is_constant_byte, is_visible}
 use Rattle.lp_verilog_tokens.specs.Constants.{number_of, constant_of, constant_with, base_of, are_digits}
-use Rattle.lp_verilog_tokens.specs.Cutting.{Lexeme, Named, Plain, Front, Whole, Cut, word_lexeme, word_front, quoted_front, number_front, number_at, escaped_front, escaped_at, directive_front, mark_of, front_of, opening, opened, gap_step}
+use Rattle.lp_verilog_tokens.specs.Cutting.{Lexeme, Named, Plain, Whole, word_lexeme, word_front, quoted_front, number_front, number_at, escaped_front, escaped_at, directive_front, mark_of, front_of, opening, opened, gap_step}
 use Rattle.lp_verilog_tokens.proofs.Visible.{front_passes}
 
 abbrev pub heads : (ℕ → Bool) → List ℕ → Bool
@@ -195,7 +195,7 @@ number_bytes b rest size lexeme lead digit front = by ys split (prefix_ends is_n
         let total = length (b ∷ w) + 1 + length body in
         let stop : heads is_number_byte (c ∷ []) ≡ false = ap is_number_byte is in
         let spell : (zs : List ℕ) → heads is_constant_byte zs ≡ false → front_of b ((w ++ c ∷ body) ++ zs) ≡ Whole total constant = λ zs end.
-          ap (front_of b) (append_assoc w (c ∷ body) zs) ∙ cut (c ∷ (body ++ zs)) stop ∙ rw quote (quoted_cut (length (b ∷ w)) (b ∷ w) body zs (front_passes is_constant_byte more) end) in
+        ap (front_of b) (append_assoc w (c ∷ body) zs) ∙ cut (c ∷ (body ++ zs)) stop ∙ rw quote (quoted_cut (length (b ∷ w)) (b ∷ w) body zs (front_passes is_constant_byte more) end) in
         let here : Whole total constant ≡ Whole size lexeme = sym (spell left (prefix_ends is_constant_byte more)) ∙ ap (front_of b) (sym whole) ∙ front in
         record {
           word = w ++ c ∷ body;

@@ -1,9 +1,8 @@
 -- What holds of a reader between tokens, and that each token keeps it.
 use Rattle.std.proofs.Common.{◌≡◌, ℕ, suc, ◌+◌, ◌≤◌, Bool, true, false, List, [], ◌∷◌, ◌++◌, length, Option, Some, None, refl, sym, ap, ◌∙◌, subst, arith}
-use Rattle.std.specs.Prelude.{nat_eq, nat_lt, nat_le, is_some, is_none, not, ◌&&◌, ◌||◌, ◌==◌, if◌then◌else◌}
+use Rattle.std.specs.Prelude.{nat_eq, nat_lt, nat_le, is_some, is_none, not, ◌&&◌, if◌then◌else◌}
 use Rattle.std.specs.List.{list_all, list_any}
 use Rattle.std.specs.Map.{lookup}
-use Rattle.indexmap.specs.IndexMap.{insert_entry}
 use Rattle.indexmap.specs.IndexSet.{insert_key}
 use Rattle.std.proofs.lemmas.Bool.{true≢false, and_parts, and_from}
 use Rattle.std.proofs.lemmas.List.{length-append}
@@ -35,10 +34,9 @@ use Rattle.lp_verilog_draft.specs.Steps
 use Rattle.lp_verilog_draft.specs.Values.{is_in, goes_along, select}
 use Rattle.lp_verilog_grammar.specs.declared.reader.Reader.{Reader}
 use Rattle.lp_verilog_grammar.specs.Grammar.{Production, production}
-use Rattle.lp_verilog_grammar.specs.Machine.{start, with_scope, with_value, scoped, valued, begin_module, list_port, give_direction, declare_name, finish_module, left_bound, right_bound, give_target, begin_instance, begun_instance, end_instance, end_ordered, end_named, give_port, with_side, end_left, end_assign, with_subject, start_value, give_index, give_second, perform, is_bracket, settled, settle, produced, take_by, take_token, step, is_source}
+use Rattle.lp_verilog_grammar.specs.Machine.{start, with_scope, with_value, scoped, valued, begun_instance, with_subject, start_value, perform, is_bracket, settled, settle, produced, take_by, step}
 use Rattle.lp_verilog_tokens.specs.Cutting.{Lexeme, Named, Plain}
 use Rattle.lp_verilog.specs.Denotes.{numbered}
-use Rattle.lp_verilog.specs.Places.{plain}
 use Rattle.lp_verilog.proofs.Spelling.{may_stand}
 use Rattle.lp_verilog.proofs.Shapes.{calm, Ok, Fits, fits, is_small, small, Good, put_good, good_more, below, below_more, below_insert}
 
@@ -204,9 +202,9 @@ value_kept n m v s h = record { names = s.names; modules = s.modules; left = s.l
 start_held : (n : ℕ) (m : Reader) (at : ℕ) (t : Token) → State n m → token_ok n t ≡ true → Held (λ u. State n u × (u.waiting ≡ m.waiting)) (start_value m at t)
 start_held n m at (tokens.Name id) s ok =
     held_then (λ u. State n u × (u.waiting ≡ m.waiting)) (λ u. State n u × (u.waiting ≡ m.waiting)) (λ r. Goes (with_subject id r))
-      (λ u h. (value_kept n u (Steps.value_subject id (range_in u.draft.scope id) u.value) h.0 (range_small n u.draft.scope id h.0.names), h.1))
-      (scoped m (use_name m.value.side at m.draft.scope id))
-      (held_then (Good n) (λ u. State n u × (u.waiting ≡ m.waiting)) (λ es. Goes (with_scope m es)) (λ es g. (scope_kept n m es s g, refl)) (use_name m.value.side at m.draft.scope id) (use_held n id ok m.value.side at m.draft.scope (found m.draft.scope id) refl s.names))
+    (λ u h. (value_kept n u (Steps.value_subject id (range_in u.draft.scope id) u.value) h.0 (range_small n u.draft.scope id h.0.names), h.1))
+    (scoped m (use_name m.value.side at m.draft.scope id))
+    (held_then (Good n) (λ u. State n u × (u.waiting ≡ m.waiting)) (λ es. Goes (with_scope m es)) (λ es g. (scope_kept n m es s g, refl)) (use_name m.value.side at m.draft.scope id) (use_held n id ok m.value.side at m.draft.scope (found m.draft.scope id) refl s.names))
 start_held n m at (tokens.Constant size value) s ok = by m.value.side
   where
     by : (side : Side) → Held (λ u. State n u × (u.waiting ≡ m.waiting)) (valued m (Steps.constant_on side size value m.value))
@@ -256,9 +254,9 @@ perform_held n actions.Target (tokens.Name id) at m s ok = (s, refl, tt)
 perform_held n actions.Target _ at m s ok = tt
 perform_held n actions.BeginInstance (tokens.Name id) at m s ok =
     held_then (λ u. State n u × (u.waiting ≡ m.waiting) × Unit {0}) (After n actions.BeginInstance m) (λ r. Goes (begun_instance id r))
-      (λ u h. (record { names = h.0.names; modules = h.0.modules; left = h.0.left; range = h.0.range; subject = h.0.subject }, h.1, tt))
-      (scoped m (add_new m.draft.scope id (instance_entry at) (found m.draft.scope id)))
-      (scoped_held n m (add_new m.draft.scope id (instance_entry at) (found m.draft.scope id)) s (add_held n id ok m.draft.scope (instance_entry at) (found m.draft.scope id) s.names refl))
+    (λ u h. (record { names = h.0.names; modules = h.0.modules; left = h.0.left; range = h.0.range; subject = h.0.subject }, h.1, tt))
+    (scoped m (add_new m.draft.scope id (instance_entry at) (found m.draft.scope id)))
+    (scoped_held n m (add_new m.draft.scope id (instance_entry at) (found m.draft.scope id)) s (add_held n id ok m.draft.scope (instance_entry at) (found m.draft.scope id) s.names refl))
 perform_held n actions.BeginInstance _ at m s ok = tt
 perform_held n actions.EndInstance t at m s ok = (s, refl, tt)
 perform_held n actions.FirstOrdered t at m s ok = with_unit n m (start_value (record m { joint = Steps.joint_positional m.joint }) at t) (start_held n (record m { joint = Steps.joint_positional m.joint }) at t s ok)

@@ -1,11 +1,11 @@
 -- Tables whose names can all be spelled, with as many new names as are wanted.
-use Rattle.std.proofs.Common.{◌≡◌, ℕ, zero, suc, ◌+◌, ◌-◌, ◌≤◌, ◌<◌, Bool, true, false, List, [], ◌∷◌, ◌++◌, length, drop, Option, Some, None, refl, sym, ap, ◌∙◌, subst, arith}
-use Rattle.std.specs.Prelude.{max, not, nat_lt, ◌&&◌, ◌||◌, if◌then◌else◌}
+use Rattle.std.proofs.Common.{◌≡◌, ℕ, zero, suc, ◌+◌, ◌-◌, ◌≤◌, ◌<◌, Bool, true, false, List, [], ◌∷◌, ◌++◌, length, drop, Option, Some, None, refl, ap, ◌∙◌, arith}
+use Rattle.std.specs.Prelude.{max, not, nat_lt, if◌then◌else◌}
 use Rattle.std.specs.List.{list_all}
-use Rattle.std.proofs.lemmas.Bool.{true≢false, and_parts, and_from, or_from, false_from_ne_true}
+use Rattle.std.proofs.lemmas.Bool.{and_parts, and_from, or_from, false_from_ne_true}
 use Rattle.std.proofs.lemmas.Bool.Decides.{nat_tests}
 use Rattle.std.proofs.lemmas.List.{length-append}
-use Rattle.lp_text.specs.Texts.{Grown, has_text, same_text, same_text-true, text_at, with_text, distinct, distinct-push}
+use Rattle.lp_text.specs.Texts.{Grown, has_text, same_text, same_text-true, text_at, distinct, distinct-push}
 use Rattle.lp_verilog_grammar.specs.declared.reader.Reader.{Reader}
 use Rattle.lp_verilog_draft.specs.Verdicts.{Verdict, Goes, Stops}
 use Rattle.lp_verilog_grammar.specs.Machine.{step}
@@ -37,9 +37,9 @@ too_long : (n : ℕ) (ts : List (List ℕ)) → longest ts < n → has_text (rep
 too_long n [] h = refl
 too_long n (t ∷ ts) h =
     let here : same_text (repeated n) t ≡ false = false_from_ne_true (same_text (repeated n) t) (λ e.
-      let same : length (repeated n) ≡ length t = ap length (same_text-true (repeated n) t e) in
-      let long = repeated_length n in
-      let f : ⊥ = omega (arith, same, long) in absurd f) in
+    let same : length (repeated n) ≡ length t = ap length (same_text-true (repeated n) t e) in
+    let long = repeated_length n in
+    let f : ⊥ = omega (arith, same, long) in absurd f) in
     or_from (same_text (repeated n) t) (has_text (repeated n) ts) here (too_long n ts (omega (arith, h)))
 
 abbrev pub new_name : List (List ℕ) → List ℕ

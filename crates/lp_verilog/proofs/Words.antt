@@ -1,10 +1,10 @@
 -- How the tokens by which a text is led to its end are spelled.
-use Rattle.std.proofs.Common.{◌≡◌, ℕ, zero, suc, ◌+◌, ◌*◌, ◌-◌, ◌≤◌, ◌<◌, Bool, true, false, List, [], ◌∷◌, ◌++◌, length, Option, Some, None, refl, sym, ap, ◌∙◌, subst, arith}
-use Rattle.std.specs.Prelude.{nat_lt, nat_le, ◌/◌, ◌%◌, ◌^◌, ◌&&◌, ◌==◌, codes, if◌then◌else◌, unwrap_or}
+use Rattle.std.proofs.Common.{◌≡◌, ℕ, zero, suc, ◌+◌, ◌*◌, ◌-◌, ◌<◌, Bool, true, false, List, [], ◌∷◌, ◌++◌, length, Some, None, refl, sym, ap, ◌∙◌, subst, arith}
+use Rattle.std.specs.Prelude.{nat_lt, ◌/◌, ◌%◌, ◌^◌, ◌&&◌, ◌==◌, codes}
 use Rattle.std.specs.List.{list_all}
 use Rattle.std.proofs.lemmas.Bool.{true≢false, and_parts, and_from, eqb-true}
 use Rattle.std.proofs.lemmas.Bool.Decides.{nat_tests}
-use Rattle.lp_text.specs.Texts.{text_at, distinct, place_of, has_text}
+use Rattle.lp_text.specs.Texts.{text_at}
 use Rattle.lp_verilog_tokens.specs.declared.token.Token.{Token}
 use Rattle.lp_verilog_tokens.specs.declared.token.Token.TheVariants as tokens
 use Rattle.lp_verilog_tokens.specs.declared.token.Keyword.TheVariants as keywords
@@ -14,10 +14,10 @@ use Rattle.lp_verilog_tokens.specs.declared.gap.GapMode.TheVariants.{Between}
 use Rattle.lp_verilog_tokens.specs.Lexical.{is_blank, is_lead, is_digit, is_inner, is_number_byte, is_visible}
 use Rattle.lp_verilog_tokens.specs.Constants.{number_of, number_behind}
 use Rattle.lp_verilog_tokens.specs.Reserved.{reserved_words}
-use Rattle.lp_verilog_tokens.specs.Cutting.{Lexeme, Named, Plain, Whole, Piece, front_of, gap_step, piece_of}
+use Rattle.lp_verilog_tokens.specs.Cutting.{Lexeme, Named, Plain, Whole, front_of, gap_step, piece_of}
 use Rattle.lp_verilog.proofs.Shapes.{is_small}
 use Rattle.lp_verilog.proofs.Ending.{spelled_ok}
-use Rattle.lp_verilog.proofs.Spelling.{heads, number_cut, word_cut, escaped_cut, no_gap, escaped_cuts, escaped_whole, escaped_sign, digit_front, plain_number, digit_sign, blank_hidden}
+use Rattle.lp_verilog.proofs.Spelling.{heads, number_cut, escaped_cut, no_gap, escaped_cuts, escaped_whole, escaped_sign, digit_front, plain_number, digit_sign, blank_hidden}
 use Rattle.lp_verilog.proofs.Pieces.{nameable, made_piece}
 
 -- digits of a number before others, the last digits last
@@ -136,9 +136,10 @@ mark_spells names marks.Equals = record { first = 61; more = []; is = refl; none
 
 word_spells : (names : List (List ℕ)) → Spells (spelled names (tokens.Keyword keywords.Input)) (Plain (tokens.Keyword keywords.Input)) × Spells (spelled names (tokens.Keyword keywords.EndModule)) (Plain (tokens.Keyword keywords.EndModule))
 unfolding is_lead is_blank is_inner reserved_words
-word_spells names =
-    ( record { first = 105; more = codes "nput"; is = refl; none = λ h xs. refl; front = λ xs. refl },
-      record { first = 101; more = codes "ndmodule"; is = refl; none = λ h xs. refl; front = λ xs. refl } )
+word_spells names = (
+  record { first = 105; more = codes "nput"; is = refl; none = λ h xs. refl; front = λ xs. refl },
+  record { first = 101; more = codes "ndmodule"; is = refl; none = λ h xs. refl; front = λ xs. refl },
+)
 
 constant_spells : Spells (codes "1'b0") (Plain (tokens.Constant 1 0))
 unfolding is_lead is_blank
@@ -158,7 +159,7 @@ number_spells names v small =
       is = d.is;
       none = λ h xs. no_gap h d.first (d.more ++ 32 ∷ xs) sign.0 sign.1 sign.2 (ap (λ x. x && heads (λ c. c == 42) (d.more ++ 32 ∷ xs)) sign.3);
       front = λ xs. digit_front d.first (d.more ++ 32 ∷ xs) (digit_lead d.first d.digit) d.digit ∙ number_cut (d.first ∷ d.more) (32 ∷ xs) d.all refl ∙ plain_number (length (d.first ∷ d.more)) (d.first ∷ d.more) (32 ∷ xs) refl
-        ∙ ap (λ o. Whole (length (d.first ∷ d.more)) (Plain (tokens.Number o))) (ap number_of (sym d.is) ∙ decimal_read v small);
+          ∙ ap (λ o. Whole (length (d.first ∷ d.more)) (Plain (tokens.Number o))) (ap number_of (sym d.is) ∙ decimal_read v small);
     }
 
 name_spells : (text : List ℕ) → nameable text ≡ true → Spells (92 ∷ text) (Named text)

@@ -1,6 +1,5 @@
 -- How a text is read: token by token, the names numbered in a table.
-use Rattle.std.specs.Prelude.{ℕ, ◌+◌, ◌-◌, Bool, false, List, [], ◌∷◌, length, take, drop, Option, Some, None, unwrap_or, max, if◌then◌else◌}
-use Rattle.std.specs.List.{list_all}
+use Rattle.std.specs.Prelude.{ℕ, ◌+◌, ◌-◌, Bool, true, false, List, [], ◌∷◌, length, take, drop, Option, Some, None, unwrap_or, max, if◌then◌else◌}
 use Rattle.lp_text.specs.Texts.{place_of, with_text}
 use Rattle.lp_model.specs.declared.netlist.Module.{Module}
 use Rattle.lp_verilog_tokens.specs.declared.token.Token.{Token}
@@ -8,7 +7,6 @@ use Rattle.lp_verilog_tokens.specs.declared.token.Token.TheVariants as tokens
 use Rattle.lp_verilog_draft.specs.declared.stop.Off.{Off}
 use Rattle.lp_verilog_draft.specs.declared.stop.Off.TheVariants as offs
 use Rattle.lp_verilog_grammar.specs.declared.reader.Reader.{Reader}
-use Rattle.lp_verilog_tokens.specs.Lexical.{is_visible}
 use Rattle.lp_verilog_tokens.specs.Cutting.{Lexeme, Named, Plain, Piece, piece_of}
 use Rattle.lp_verilog_draft.specs.Verdicts.{Verdict, Goes, Stops}
 use Rattle.lp_verilog_grammar.specs.Machine.{step, accepts}
@@ -30,9 +28,16 @@ abbrev pub names_with : List (List ℕ) → Lexeme → List (List ℕ)
 names_with names (Named text) = with_text names text
 names_with names (Plain token) = names
 
--- the bytes of a token that is shown, which are visible
-abbrev pub shown : List ℕ → List ℕ
-shown text = if list_all is_visible text then text else []
+-- the tokens that may be refused as not read
+abbrev pub is_unread : Token → Bool
+is_unread tokens.Foreign = true
+is_unread tokens.Unread = true
+is_unread (tokens.Number v) = true
+is_unread _ = false
+
+abbrev pub left_out : Lexeme → Bool
+left_out (Named text) = false
+left_out (Plain token) = is_unread token
 
 -- the modules, or the first token that cannot stand where it does: why, the number of its first byte, and its bytes
 pub data Outcome : Type 0 where
@@ -56,7 +61,7 @@ abbrev pub behind : Piece → List ℕ → List ℕ
 behind p rest = drop (max p.size 1) (drop p.gap rest)
 
 abbrev pub piece_bytes : Piece → List ℕ → List ℕ
-piece_bytes p rest = shown (take p.size (drop p.gap rest))
+piece_bytes p rest = take p.size (drop p.gap rest)
 
 abbrev pub stepped : (List (List ℕ) → Reader → Reading) → ℕ → Piece → List ℕ → List (List ℕ) → Verdict Reader → Reading
 stepped more at p rest names (Goes m) = more names m

@@ -1,7 +1,6 @@
 //! Structural Verilog netlists (IEEE 1364-2005, the subset that is read).
 #![tactic(auto)]
 
-mod ascii;
 mod laws;
 mod naming;
 mod netlist;

@@ -1,9 +1,13 @@
-ghost use Rattle.std.specs.Prelude.{◌≡◌, ◌+◌, ◌<◌, ◌≤◌, length, IfOk, IfErr, OnOk};
+ghost use Rattle.std.specs.Prelude.{◌≡◌, ◌+◌, ◌<◌, ◌≤◌, length, IfOk, IfErr, OnOk, IsTrue};
+ghost use Rattle.std.specs.List.{list_all};
 ghost use Rattle.lp_text.specs.Texts.{Grown};
 ghost use Rattle.lp_text.specs.Places.{place_in};
 ghost use Rattle.lp_model.specs.NetlistView.{netlist_view};
 ghost use Rattle.lp_verilog.specs.Denotes.{Denotes};
 ghost use Rattle.lp_verilog.specs.Reads.{Reads};
+ghost use Rattle.lp_verilog_tokens.specs.Lexical.{is_visible};
+ghost use Rattle.lp_verilog_draft.specs.declared.stop.Off.TheVariants as offs;
+ghost use Rattle.lp_verilog.specs.Answers.{SameUnless};
 ghost use Rattle.lp_verilog.specs.Refusing.{IsFault, Refuses, HasNone, fault_of};
 
 use crate::naming::intern;
@@ -11,6 +15,7 @@ use crate::reading::{Halt, read_modules};
 use lp_model::{Netlist, NetlistFault, NetlistLimit, Refusal};
 use lp_text::{LIMIT, Names, Place};
 use lp_verilog_draft::Off;
+use lp_verilog_tokens::text_of;
 use std::alloc::Global;
 
 /// The place of a byte, or of the end.
@@ -22,18 +27,20 @@ fn place(text: &[u8], at: usize) -> Place
 }
 
 /// The refusal for a token that cannot stand where it does.
-fn refusal(names: &mut Names, text: &[u8], off: Off, at: usize, word: &str) -> Refusal
+fn refusal(names: &mut Names, text: &[u8], off: Off, at: usize, word: &[u8]) -> Refusal
     requires short { length text.now ≤ 67108864 }
     requires room { length names.old < 4294967295 }
+    requires seen { off ≡ offs.Unsupported → IsTrue (list_all is_visible word.now) }
     ensures fault { IsFault result (fault_of names.new text.now at word.now off) }
     ensures grown { Grown names.old names.new }
     ensures few { length names.new ≤ length names.old + 1 }
+    ensures same { SameUnless off names.old names.new }
 {
     match off {
         Off::Syntax => Refusal::from(NetlistFault::Syntax {
             place: place(text, at),
         }),
-        Off::Unsupported => match intern(names, word) {
+        Off::Unsupported => match intern(names, text_of(word)) {
             Ok(word) => Refusal::from(NetlistFault::Unsupported {
                 place: place(text, at),
                 word,
@@ -66,7 +73,7 @@ pub fn read_netlist(alloc: Global, names: &mut Names, bytes: &[u8]) -> Result<Ne
     ensures err { IfErr result (Refuses names.new bytes.now) }
     ensures none { IfErr result (HasNone bytes.now) }
     ensures grown { Grown names.old names.new }
-    ensures few { length names.new ≤ length names.old + length bytes.now + 1 }
+    ensures few { length names.new ≤ length names.old + length bytes.now }
 {
     if bytes.len() > LIMIT {
         return Err(Refusal::from(NetlistFault::Limit {

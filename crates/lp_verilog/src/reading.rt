@@ -1,12 +1,14 @@
-ghost use Rattle.std.specs.Prelude.{◌≡◌, ◌+◌, ◌<◌, ◌≤◌, ℕ, List, Some, true, length, take, drop, IfOk};
+ghost use Rattle.std.specs.Prelude.{◌≡◌, ◌+◌, ◌<◌, ◌≤◌, ℕ, List, Some, true, length, take, drop, IfOk, IsTrue};
+ghost use Rattle.std.specs.List.{list_all};
 ghost use Rattle.lp_text.specs.Texts.{Grown};
 ghost use Rattle.lp_verilog.specs.Reading.{Reading, read_rest, turned, ending};
 ghost use Rattle.lp_verilog_grammar.specs.Machine.{start, step};
-ghost use Rattle.lp_verilog.specs.Answers.{Takes, GoesOn, Finishes, IsReading};
-ghost use Rattle.lp_verilog_tokens.specs.View.{piece_view};
+ghost use Rattle.lp_verilog.specs.Answers.{Takes, GoesOn, Finishes, IsReading, Unread, EndsUnread};
+ghost use Rattle.lp_verilog.specs.Reading.{left_out};
+ghost use Rattle.lp_verilog_tokens.specs.Lexical.{is_visible};
+ghost use Rattle.lp_verilog_tokens.specs.View.{piece_view, lexeme_view};
 ghost use Rattle.lp_verilog_grammar.specs.declared.reader.Reader.{Reader};
 
-use crate::ascii::shown;
 use crate::naming::token_of;
 use lp_model::Module;
 use lp_text::{Names, NoMemory};
@@ -20,7 +22,7 @@ use std::alloc::Global;
 #[derive(Clone, Copy, Debug)]
 pub(crate) enum Halt<'a> {
     /// A token cannot stand where it does: why, the number of its first byte, and its bytes.
-    Left(Off, usize, &'a str),
+    Left(Off, usize, &'a [u8]),
     /// An allocation was refused.
     NoMemory,
 }
@@ -70,7 +72,7 @@ fn take<'a>(
 {
     match reader.step(alloc, token, at) {
         Ok(()) => Ok(()),
-        Err(Stop::Off(off)) => Err(Halt::Left(off, at, shown(bytes))),
+        Err(Stop::Off(off)) => Err(Halt::Left(off, at, bytes)),
         Err(Stop::NoMemory) => Err(Halt::NoMemory),
     }
 }
@@ -87,26 +89,31 @@ fn turn<'a>(
     requires room { length names.old < 4294967295 }
     requires within { length rest.now ≤ size }
     requires gap { piece.gap ≤ length rest.now }
+    requires seen { IsTrue (left_out (lexeme_view piece.lexeme)) → IsTrue (list_all is_visible (take piece.size (drop piece.gap rest.now))) }
     ensures reads { (more : List ℕ → List (List ℕ) → Reader → Reading) → GoesOn (λ r. r.now) more result names.new reader.new (turned more size rest.now names.old reader.old (Some (piece_view piece.entry))) }
     ensures left { IfOk result (λ r. length r.now ≤ length rest.now) }
+    ensures unread { Unread result names.old names.new }
     ensures grown { Grown names.old names.new }
     ensures few { length names.new ≤ length names.old + 1 }
 {
     let at = size - rest.len() + piece.gap;
     let token = token_of(names, piece.lexeme)?;
     let here = skip(rest, piece.gap);
-    take(alloc, reader, token, at, front(here, piece.size))?;
-    Ok(skip(here, piece.size.max(1)))
+    match take(alloc, reader, token, at, front(here, piece.size)) {
+        Ok(()) => Ok(skip(here, piece.size.max(1))),
+        Err(halt) => Err(halt),
+    }
 }
 
 /// The modules, where the text may end.
 fn finish<'a>(reader: Reader, size: usize) -> Result<Items<Module>, Halt<'a>>
-    ensures { Finishes result (ending size reader) }
+    ensures modules { Finishes result (ending size reader) }
+    ensures read { (count most : ℕ) → EndsUnread result count most }
 {
     if reader.accepts() {
         Ok(reader.modules)
     } else {
-        Err(Halt::Left(Off::Syntax, size, ""))
+        Err(Halt::Left(Off::Syntax, size, &[]))
     }
 }
 
@@ -121,6 +128,7 @@ pub(crate) fn read_modules<'a>(
     ensures reads { IsReading result names.new (read_rest bytes.now (length bytes.now) true bytes.now names.old start) }
     ensures grown { Grown names.old names.new }
     ensures few { length names.new ≤ length names.old + length bytes.now }
+    ensures unread { EndsUnread result (length names.new) (length names.old + length bytes.now) }
 {
     let mut reader = Reader::new(alloc)?;
     let mut rest = bytes;

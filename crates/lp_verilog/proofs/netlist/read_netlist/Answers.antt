@@ -2,6 +2,7 @@ use Rattle.std.proofs.Common.{arith}
 use Rattle.lp_verilog.specs.Reading.{Whole, Left}
 use Rattle.lp_verilog.proofs.Found.{grown_same}
 use Rattle.lp_verilog.proofs.Faults.{first_fault}
+use Rattle.lp_verilog.proofs.Unread.{ends_visible, few_after}
 use Rattle.lp_verilog.proofs.Answering.{leads_to, left_at, refused, has_none, reads_view}
 use Rattle.lp_verilog.proofs.netlist.read_netlist.Goals as goal
 
@@ -28,3 +29,9 @@ returns-in-Err-Left-clause-none c =
     let reads = left_at c.in-Err-Left.field-0 c.in-Err-Left.off c.in-Err-Left.at c.in-Err-Left.word names _ c.in-Err-Left.field-0-is c.in-Err-Left.ensures.reads in
     let leads = leads_to c.args.bytes.now c.args.names.now names names (Left c.in-Err-Left.off c.in-Err-Left.at c.in-Err-Left.word.now) reads (grown_same names) in
     has_none names c.args.bytes.now c.refusal.result c.in-Err-Left.off c.in-Err-Left.at c.in-Err-Left.word.now c.count-in-Err-Left.ensures.distinct (omega arith) leads
+
+pub refusal-requires-clause-seen : goal.refusal-requires-clause-seen
+refusal-requires-clause-seen c = ends_visible c.in-Err-Left.field-0 c.in-Err-Left.off c.in-Err-Left.at c.in-Err-Left.word _ _ c.in-Err-Left.field-0-is c.in-Err-Left.ensures.unread
+
+pub returns-in-Err-Left-clause-few : goal.returns-in-Err-Left-clause-few
+returns-in-Err-Left-clause-few c = few_after c.in-Err-Left.field-0 c.in-Err-Left.off c.in-Err-Left.at c.in-Err-Left.word c.read_modules.new.names c.refusal.new.names _ c.in-Err-Left.field-0-is c.in-Err-Left.ensures.unread (omega arith) (omega arith) c.refusal.ensures.same

@@ -3,11 +3,12 @@ use Rattle.lp_verilog_grammar.specs.declared.reader.Reader.{Reader}
 use Rattle.lp_verilog.specs.Reading.{read_rest}
 use Rattle.lp_verilog_tokens.specs.View.{piece_view}
 use Rattle.lp_verilog.proofs.Found.{grown_trans}
+use Rattle.lp_verilog.proofs.Unread.{piece_visible, ends_unread}
 use Rattle.lp_verilog.proofs.Loop.{finished, turn_at, halted}
 use Rattle.lp_verilog.proofs.reading.read_modules.Goals as goal
 
 pub returns-in-None-clause-reads : goal.returns-in-None-clause-reads
-returns-in-None-clause-reads c = finished c.finish.result (drop c.loop-byte.byte-index c.args.bytes.now) (length c.args.bytes.now) c.loop-byte.fresh c.loop-byte.rest.now c.loop-byte.names c.loop-byte.reader _ (sym c.in-None.ensures.piece) c.finish.ensures c.loop-byte.invariant.reads
+returns-in-None-clause-reads c = finished c.finish.result (drop c.loop-byte.byte-index c.args.bytes.now) (length c.args.bytes.now) c.loop-byte.fresh c.loop-byte.rest.now c.loop-byte.names c.loop-byte.reader _ (sym c.in-None.ensures.piece) c.finish.ensures.modules c.loop-byte.invariant.reads
 
 pub returns-in-Err-clause-reads : goal.returns-in-Err-clause-reads
 returns-in-Err-clause-reads c =
@@ -23,3 +24,9 @@ loop-byte-preserved c =
       few = omega (arith, c.in-Ok.ensures.few);
       within = omega (arith, c.in-Ok.ensures.left);
     }
+
+pub turn-requires-clause-seen : goal.turn-requires-clause-seen
+turn-requires-clause-seen c = λ out. piece_visible c.loop-byte.fresh c.loop-byte.rest.now (piece_view c.in-Some.piece) (sym c.in-Some.ensures.piece) out
+
+pub returns-in-Err-clause-unread : goal.returns-in-Err-clause-unread
+returns-in-Err-clause-unread c = ends_unread c.in-Err.halt c.loop-byte.names c.turn.new.names _ c.in-Err.ensures.unread (omega arith)
