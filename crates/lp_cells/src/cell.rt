@@ -8,7 +8,10 @@ ghost use Rattle.lp_parts.specs.Views.{Knows, frame_view};
 use crate::judge::reason_of;
 use lp_attributes::{area, value};
 use lp_model::{Cell, Group, PgPin};
-use lp_parts::{Frame, arg_of, has_ground, is_switch, only_ground, only_power, pg_names, pgs_of, pins_of, roles_of, signal_names, state_of};
+use lp_parts::{
+    Frame, arg_of, has_ground, is_switch, only_ground, only_power, pg_names, pgs_of, pins_of,
+    roles_of, signal_names, state_of,
+};
 use lp_table::Table;
 use lp_text::{Names, NoMemory};
 use sqlite_items::Items;
@@ -16,13 +19,7 @@ use std::alloc::Global;
 
 /// The frame of these names and pins.
 #[tactic(auto, using(lp_parts::proofs::Viewed::kinds_same))]
-fn frame_by(
-    names: &Names,
-    signals: Table,
-    own: Table,
-    pgs: Items<PgPin>,
-    switch: bool,
-) -> Frame
+fn frame_by(names: &Names, signals: Table, own: Table, pgs: Items<PgPin>, switch: bool) -> Frame
     ensures signals { result.signals ≡ signals }
     ensures own { result.names ≡ own }
     ensures same { frame_view names.now result ≡ scope_by signals own (map (pg_pin_view names.now) pgs) switch }

@@ -12,12 +12,7 @@ use lp_text::{NameId, Names, NoMemory, Word};
 use std::alloc::Global;
 
 /// Whether a group is a power or ground pin without a known type.
-fn has_no_kind(
-    alloc: Global,
-    names: &Names,
-    place: usize,
-    group: &Group,
-) -> Result<bool, NoMemory>
+fn has_no_kind(alloc: Global, names: &Names, place: usize, group: &Group) -> Result<bool, NoMemory>
     ensures { IfOk result (λ b. b ≡ has_no_kind place (group_view names.now group.now)) }
 {
     if !is_part(names, place, group, "pg_pin") {
@@ -139,12 +134,7 @@ fn is_grounded(frame: &Frame, value: &Option<Word>) -> bool
 
 /// Whether both related pins are as they have to be.
 #[tactic(auto, using(lp_parts::proofs::Viewed::kinds_same))]
-fn is_related(
-    alloc: Global,
-    names: &Names,
-    frame: &Frame,
-    group: &Group,
-) -> Result<bool, NoMemory>
+fn is_related(alloc: Global, names: &Names, frame: &Frame, group: &Group) -> Result<bool, NoMemory>
     ensures { IfOk result (λ b. b ≡ is_related (frame_view names.now frame.now) (group_view names.now group.now)) }
 {
     let power = value(alloc, names, group, "related_power_pin")?;

@@ -14,7 +14,9 @@ use crate::reading::all_read;
 use crate::structure::{any_construct, has_bad_range, has_condition, has_two_states};
 use lp_attributes::text_of;
 use lp_model::{Group, PgPin, Pin, Reason};
-use lp_parts::{Frame, arg_of, copy_of, has_primary_ground, has_primary_power, is_retention, is_switch};
+use lp_parts::{
+    Frame, arg_of, copy_of, has_primary_ground, has_primary_power, is_retention, is_switch,
+};
 use lp_table::Table;
 use lp_text::{NameId, Names, NoMemory};
 use sqlite_items::Items;

@@ -6,9 +6,8 @@ mod faulty;
 mod files;
 mod judge;
 mod laws;
-
 mod reading;
 mod structure;
 
-pub use laws::{one_library, one_library_answer};
 pub use files::library;
+pub use laws::{one_library, one_library_answer};

@@ -7,7 +7,10 @@ ghost use Rattle.lp_parts.specs.Views.{Knows, frame_view};
 
 use lp_attributes::{expression_over, value};
 use lp_model::Group;
-use lp_parts::{Frame, clock_text, is_internal_power, is_output, is_part, is_pin, is_state, kind_of, next_text, passed};
+use lp_parts::{
+    Frame, clock_text, is_internal_power, is_output, is_part, is_pin, is_state, kind_of, next_text,
+    passed,
+};
 use lp_table::Table;
 use lp_text::{Names, NoMemory, Word};
 use std::alloc::Global;
@@ -30,12 +33,7 @@ fn reads_if_any(
 }
 
 /// Whether the `power_down_function` of a group reads, if it has one.
-fn reads_down(
-    alloc: Global,
-    names: &Names,
-    frame: &Frame,
-    group: &Group,
-) -> Result<bool, NoMemory>
+fn reads_down(alloc: Global, names: &Names, frame: &Frame, group: &Group) -> Result<bool, NoMemory>
     requires { Knows names.now frame.now }
     ensures { IfOk result (λ b. b ≡ reads_down (frame_view names.now frame.now) (group_view names.now group.now)) }
 {
@@ -123,12 +121,7 @@ fn reads_controls(
 }
 
 /// Whether the functions of a state group read.
-fn reads_state(
-    alloc: Global,
-    names: &Names,
-    frame: &Frame,
-    group: &Group,
-) -> Result<bool, NoMemory>
+fn reads_state(alloc: Global, names: &Names, frame: &Frame, group: &Group) -> Result<bool, NoMemory>
     requires { Knows names.now frame.now }
     ensures { IfOk result (λ b. b ≡ reads_state (frame_view names.now frame.now) (group_view names.now group.now)) }
 {

@@ -28,12 +28,7 @@ fn nothing(alloc: Global) -> Result<Expr, NoMemory>
 }
 
 /// The expression of a text, the constant 0 where it does not read.
-fn over_text(
-    alloc: Global,
-    names: &Names,
-    stand: &Table,
-    text: &str,
-) -> Result<Expr, NoMemory>
+fn over_text(alloc: Global, names: &Names, stand: &Table, text: &str) -> Result<Expr, NoMemory>
     requires known { IsTrue (are_known names.now stand.now) }
     ensures { IfOk result (λ e. expr_view names.now e ≡ over_if_any stand.now (Some text.now)) }
 {

@@ -56,7 +56,12 @@ fn add_pins(names: &Names, place: usize, set: &mut Table, group: &Group) -> Resu
 }
 
 /// The names of all pins.
-fn pin_names(alloc: Global, names: &Names, place: usize, groups: &[Group]) -> Result<Table, NoMemory>
+fn pin_names(
+    alloc: Global,
+    names: &Names,
+    place: usize,
+    groups: &[Group],
+) -> Result<Table, NoMemory>
     ensures { IfOk result (λ t. t ≡ pin_names place (map (group_view names.now) groups.now)) }
 {
     let mut set = Table::new(alloc);

@@ -16,11 +16,7 @@ use sqlite_items::Items;
 use std::alloc::Global;
 
 /// The type of a power or ground pin, none where it is missing or unknown.
-pub fn kind_of(
-    alloc: Global,
-    names: &Names,
-    group: &Group,
-) -> Result<Option<PgKind>, NoMemory>
+pub fn kind_of(alloc: Global, names: &Names, group: &Group) -> Result<Option<PgKind>, NoMemory>
     ensures { IfOk result (λ k. k ≡ kind_of (group_view names.now group.now)) }
 {
     match value(alloc, names, group, "pg_type")? {

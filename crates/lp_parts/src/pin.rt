@@ -106,12 +106,7 @@ fn related_by(frame: &Frame, sole: Option<usize>, value: &Option<Word>) -> Optio
 }
 
 /// The place of the related power pin.
-fn power_of(
-    alloc: Global,
-    names: &Names,
-    frame: &Frame,
-    group: &Group,
-) -> Result<u8, NoMemory>
+fn power_of(alloc: Global, names: &Names, frame: &Frame, group: &Group) -> Result<u8, NoMemory>
     ensures { IfOk result (λ p. p ≡ small (power_of (frame_view names.now frame.now) (group_view names.now group.now))) }
 {
     let named = value(alloc, names, group, "related_power_pin")?;

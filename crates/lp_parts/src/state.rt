@@ -95,11 +95,7 @@ fn kind_of(names: &Names, group: &Group) -> StateKind
 }
 
 /// The data of a state group.
-pub fn next_text(
-    alloc: Global,
-    names: &Names,
-    group: &Group,
-) -> Result<Option<Word>, NoMemory>
+pub fn next_text(alloc: Global, names: &Names, group: &Group) -> Result<Option<Word>, NoMemory>
     ensures { IfOk result (λ o. o ≡ next_text (group_view names.now group.now)) }
 {
     if is_flop(names, group) {
@@ -110,11 +106,7 @@ pub fn next_text(
 }
 
 /// The clock or the enable of a state group.
-pub fn clock_text(
-    alloc: Global,
-    names: &Names,
-    group: &Group,
-) -> Result<Option<Word>, NoMemory>
+pub fn clock_text(alloc: Global, names: &Names, group: &Group) -> Result<Option<Word>, NoMemory>
     ensures { IfOk result (λ o. o ≡ clock_text (group_view names.now group.now)) }
 {
     if is_flop(names, group) {
@@ -213,8 +205,6 @@ pub fn state_of(
 {
     match first_state(names, place, groups) {
         None => Ok(None),
-        Some(group) => Ok(Some(state_by(
-            alloc, names, place, frame, groups, group,
-        )?)),
+        Some(group) => Ok(Some(state_by(alloc, names, place, frame, groups, group)?)),
     }
 }
