@@ -28,9 +28,9 @@ when b x = if b then Some x else None
 
 -- ---- what drives a net bit of a module, from its own ports
 
--- the way into a port bit, from the outside of the top or from what the instance's connection has there
+-- the way into a bit that the port has, from the outside of the top or from what the instance's connection has there
 abbrev pub from_port : Structure → Path → Name → Option ℕ → PortView → List Source
-from_port s [] n i port = From (PortBit [] n i) (Outer n i) ∷ []
+from_port s [] n i port = if list_any (same_index i) (indices port.range) then From (PortBit [] n i) (Outer n i) ∷ [] else []
 from_port s (inst ∷ p) n i port = unwrap_or (option_and_then (λ outer. option_and_then (λ x. option_and_then (λ inner. Some (joined outer x inner)) (module_named s x.target)) (first (λ x. bytes_eq x.name inst) outer.instances)) (module_at s p)) []
   where
     joined : ModuleView → InstanceView → ModuleView → List Source

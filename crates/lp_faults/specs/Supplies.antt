@@ -1,5 +1,5 @@
 -- The lines of the table of faults about the supply network (own rule, after IEEE 1801-2015, supply networks).
-use Rattle.std.specs.Prelude.{ℕ, zero, suc, ◌==◌, nat_lt, Bool, true, false, not, ◌&&◌, ◌||◌, List, [], ◌∷◌, map, filter, length, Option, Some, None, is_some, slice_get}
+use Rattle.std.specs.Prelude.{ℕ, zero, suc, ◌==◌, nat_lt, Bool, true, false, not, ◌&&◌, ◌||◌, List, [], ◌∷◌, map, filter, length, Option, Some, None, is_none, is_some, slice_get}
 use Rattle.std.specs.List.{list_any}
 use Rattle.lp_model.specs.declared.intent.DeclaredState.{DeclaredState}
 use Rattle.lp_model.specs.declared.intent.DeclaredState.TheVariants.{On, Off}
@@ -39,9 +39,6 @@ made_by (MakesNet n) = Some (SupplyMade (NetAt n))
 made_by (MakesSet k) = Some (SetMade k)
 made_by (Connects n ports) = None
 made_by (MakesSwitch w) = None
-
-abbrev pub is_none : Option Scoped → Bool
-is_none o = not (is_some o)
 
 abbrev pub lacks_function : Option SupplySet → Bool
 lacks_function None = false

@@ -1,8 +1,9 @@
 -- The netlist of a flat design carries it.
-use Rattle.std.proofs.Common.{◌≡◌, ℕ, Bool, true, false, not, ◌&&◌, cond, List, [], ◌∷◌, ◌++◌, map, Option, Some, None, refl, sym, ◌∙◌, ap, subst}
+use Rattle.std.proofs.Common.{◌≡◌, ℕ, Bool, true, false, not, ◌&&◌, cond, List, [], ◌∷◌, map, Option, Some, None, refl, sym, ◌∙◌, ap, subst}
 use Rattle.std.specs.Prelude.{bytes_eq, filter, flat_map, option_map, option_and_then, IsTrue}
-use Rattle.std.specs.List.{list_all}
-use Rattle.std.proofs.lemmas.Bool.{false≢true}
+use Rattle.std.specs.List.{AllByRecursion, list_all}
+use Rattle.std.proofs.lemmas.Bool.{and_parts, and_from, false≢true, not-true}
+use Rattle.std.proofs.lemmas.List.Folds.{list_all-append}
 use Rattle.std.proofs.lemmas.Slice.Eq.{bytes_eq-Decides}
 use Rattle.lp_model.specs.NetlistView.{BitView, NetBit, PortView, ConnectionView, ConnectionsView, ByName, ByPosition, InstanceView, ModuleView}
 use Rattle.lp_model.specs.LibraryView.{PgPinView, PinView, CellView}
@@ -13,20 +14,21 @@ use Rattle.lp_design.specs.Settled.{pin_named, node_at_pin}
 use Rattle.lp_pins.specs.Pins.{is_power, supply_of_node}
 use Rattle.lp_plain.specs.Cells.{is_plain_cell}
 use Rattle.lp_plain.specs.Designs.{IsPlain}
-use Rattle.lp_plain.specs.Carried.{Each, IsJoined, Carries}
+use Rattle.lp_plain.specs.Carried.{IsJoined, Carries}
 use Rattle.lp_plain.specs.Alike.{output_bits}
+use Rattle.lp_plain.proofs.Reading.{all-first}
 use Rattle.lp_flat.specs.Designs.{Flat, one_set, design_of}
 use Rattle.lp_flat.specs.Netlists.{power_port, ground_port, port_of_pin, joined, joins_of, with_joins, powered_instance, is_supply, netlist_of, is_own}
 use Rattle.lp_flat.specs.Tests.{is_pg_name, is_free_bit, is_free_connection, are_free, is_flat}
-use Rattle.lp_flat.proofs.Lists.{left_part, right_part, not-is, all-weaker, all-found, found-passes, joins-each}
+use Rattle.lp_flat.proofs.Lists.{all-weaker, found-passes, joins-each}
 use Rattle.lp_flat.proofs.Graphs.{source, written, ports_apart, ports_free, power_is, ground_is, top, top_written, instance_written, same_cell, no_cell, CellInstance, at_cell, plain_is, free, pins_apart, pgs_distinct}
 use Rattle.lp_flat.proofs.Sources.{free-own, connected_same, connected_free}
 use Rattle.lp_flat.proofs.Supplies.{same_source, no_source, good_source, others, port_supply, net_supply}
 use Rattle.lp_flat.proofs.Plain.{no_operator, no_retention, no_switch, cells_supplied}
 
-each-map : {A : Type 0} (P Q : A → Type 0) → ((x : A) → P x → Q x) → (xs : List A) → Each P xs → Each Q xs
-each-map P Q h [] all = tt
-each-map P Q h (x ∷ xs) all = (h x all.0, each-map P Q h xs all.1)
+AllByRecursion-map : {A : Type 0} (P Q : A → Type 0) → ((x : A) → P x → Q x) → (xs : List A) → AllByRecursion P xs → AllByRecursion Q xs
+AllByRecursion-map P Q h [] all = tt
+AllByRecursion-map P Q h (x ∷ xs) all = (h x all.0, AllByRecursion-map P Q h xs all.1)
 
 abbrev bit_node : List BitView → Option Node
 bit_node [] = None
@@ -35,10 +37,6 @@ bit_node (b ∷ bits) = Some (node_of [] b)
 pin_by : (v : Name) (cs : ConnectionsView) (bits : List BitView) → connected [] v cs ≡ bits → pin_node [] v cs ≡ bit_node bits
 pin_by v cs [] e = rw (e) refl
 pin_by v cs (b ∷ bits) e = rw (e) refl
-
-pub all-append : {A : Type 0} (p : A → Bool) (xs ys : List A) → list_all p xs ≡ true → list_all p ys ≡ true → list_all p (xs ++ ys) ≡ true
-all-append p [] ys a b = b
-all-append p (x ∷ xs) ys a b = ap (λ c. c && list_all p (xs ++ ys)) (left_part (p x) (list_all p xs) a) ∙ all-append p xs ys (right_part (p x) (list_all p xs) a) b
 
 module _ (f : Flat) (flat : is_flat f ≡ true) where
   abbrev s : Structure
@@ -65,7 +63,7 @@ module _ (f : Flat) (flat : is_flat f ≡ true) where
     no_pg_name : (v : Name) (q : PinView) → pin_named c v ≡ Some q → is_pg_name c.pgs v ≡ false
     no_pg_name v q e =
         ap (is_pg_name c.pgs) (sym ((bytes_eq-Decides q.name v).0 (found-passes (λ (r : PinView). bytes_eq r.name v) c.pins q e)))
-        ∙ not-is (is_pg_name c.pgs q.name) (all-found (λ (r : PinView). not (is_pg_name c.pgs r.name)) (λ (r : PinView). bytes_eq r.name v) c.pins q (pins_apart f flat at.instance at.fits c at.cell) e)
+        ∙ not-true _ (all-first (λ (r : PinView). not (is_pg_name c.pgs r.name)) (λ (r : PinView). bytes_eq r.name v) c.pins q (pins_apart f flat at.instance at.fits c at.cell) e)
 
     same_pin_at : (v : Name) (q : PinView) → pin_named c v ≡ Some q → node_at_pin t [] x v ≡ node_at_pin s [] x v
     same_pin_at v q e =
@@ -78,7 +76,7 @@ module _ (f : Flat) (flat : is_flat f ≡ true) where
     own_bits [] k all e = absurd cc
     own_bits (b ∷ bits) k all e =
         let same : node_of [] b ≡ k = cc in
-        ap (is_own f) (sym same) ∙ free-own f flat b (left_part (is_free_bit f b) (list_all (is_free_bit f) bits) all)
+        ap (is_own f) (sym same) ∙ free-own f flat b (and_parts _ _ all).0
 
     pin_own : (v : Name) (k : Node) → node_at_pin s [] x v ≡ Some k → is_own f k ≡ true
     pin_own v k e = own_bits (connected [] v at.instance.connections) k (connected_free f flat at.instance at.fits c at.cell v) (sym (pin_by v at.instance.connections (connected [] v at.instance.connections) refl) ∙ (sym (pin_of_source v) ∙ e))
@@ -100,16 +98,16 @@ module _ (f : Flat) (flat : is_flat f ≡ true) where
         ap (λ o. option_and_then (supply_of_node (netlist_of f)) o) (pin_of_written g.name ∙ pin_by g.name (powered_instance f at.instance).connections (NetBit (port_of_pin f g) ∷ []) has)
         ∙ net_supply f flat (port_of_pin f g) (port_is g)
 
-    has_joins : (cs : ConnectionsView) → are_free f c cs ≡ true → Each (Has (with_joins (map (joined f) c.pgs) cs)) c.pgs
+    has_joins : (cs : ConnectionsView) → are_free f c cs ≡ true → AllByRecursion (Has (with_joins (map (joined f) c.pgs) cs)) c.pgs
     has_joins (ByName cs) e =
         joins-each f c.pgs cs (pgs_distinct f flat at.instance at.fits c at.cell)
-        (all-weaker (is_free_connection f c) (λ (k : ConnectionView). not (is_pg_name c.pgs k.port)) (λ k h. left_part (not (is_pg_name c.pgs k.port)) (list_all (is_free_bit f) k.bits) h) cs e)
+        (all-weaker (is_free_connection f c) (λ (k : ConnectionView). not (is_pg_name c.pgs k.port)) (λ k h. (and_parts _ _ h).0) cs e)
     has_joins (ByPosition values) e = absurd (false≢true e)
 
-    joined_at_top : Each (IsJoined (netlist_of f) [] x (power_port f) (ground_port f)) c.pgs
+    joined_at_top : AllByRecursion (IsJoined (netlist_of f) [] x (power_port f) (ground_port f)) c.pgs
     joined_at_top =
-        each-map (Has (powered_instance f at.instance).connections) (IsJoined (netlist_of f) [] x (power_port f) (ground_port f)) joined_by c.pgs
-        (subst (λ o. Each (Has (with_joins (joins_of f o) at.instance.connections)) c.pgs) (sym at.cell) (has_joins at.instance.connections (free f flat at.instance at.fits c at.cell)))
+        AllByRecursion-map (Has (powered_instance f at.instance).connections) (IsJoined (netlist_of f) [] x (power_port f) (ground_port f)) joined_by c.pgs
+        (subst (λ o. AllByRecursion (Has (with_joins (joins_of f o) at.instance.connections)) c.pgs) (sym at.cell) (has_joins at.instance.connections (free f flat at.instance at.fits c at.cell)))
 
   none_below : (y : Name) (p : Path) (x : Name) (c : CellView) → cell_at s (y ∷ p) x ≡ Some c → ⊥
   none_below y p x c e = let gone : None ≡ Some c = sym (no_cell f flat y p x) ∙ e in absurd cc
@@ -122,7 +120,7 @@ module _ (f : Flat) (flat : is_flat f ≡ true) where
   pins_own [] x c v q k cell e at = pin_own x c (at_cell f flat x c cell) v k at
   pins_own (y ∷ p) x c v q k cell e at = absurd (none_below y p x c cell)
 
-  cells_joined : (p : Path) (x : Name) (c : CellView) → cell_at s p x ≡ Some c → Each (IsJoined (netlist_of f) p x (power_port f) (ground_port f)) c.pgs
+  cells_joined : (p : Path) (x : Name) (c : CellView) → cell_at s p x ≡ Some c → AllByRecursion (IsJoined (netlist_of f) p x (power_port f) (ground_port f)) c.pgs
   cells_joined [] x c cell = joined_at_top x c (at_cell f flat x c cell)
   cells_joined (y ∷ p) x c cell = absurd (none_below y p x c cell)
 
@@ -141,23 +139,19 @@ module _ (f : Flat) (flat : is_flat f ≡ true) where
 
   ports_own : (ports : List PortView) → list_all (λ (p : PortView). not (is_supply f p.name)) ports ≡ true → list_all own_output (flat_map (λ (p : PortView). map (λ i. (p.name, i)) (indices p.range)) (filter (λ (p : PortView). not (is_input p)) ports)) ≡ true
   ports_own [] all = refl
-  ports_own (p ∷ ports) all = by (not (is_input p)) (ports_own ports (right_part (not (is_supply f p.name)) (list_all (λ (q : PortView). not (is_supply f q.name)) ports) all))
+  ports_own (p ∷ ports) all = by (not (is_input p)) (ports_own ports (and_parts _ _ all).1)
     where
       later : List PortView
       later = filter (λ (q : PortView). not (is_input q)) ports
 
       by : (b : Bool) → list_all own_output (flat_map (λ (q : PortView). map (λ i. (q.name, i)) (indices q.range)) later) ≡ true → list_all own_output (flat_map (λ (q : PortView). map (λ i. (q.name, i)) (indices q.range)) (cond b (p ∷ later) later)) ≡ true
-      by true more = all-append own_output (map (λ i. (p.name, i)) (indices p.range)) (flat_map (λ (q : PortView). map (λ i. (q.name, i)) (indices q.range)) later) (bits_own p.name (left_part (not (is_supply f p.name)) (list_all (λ (q : PortView). not (is_supply f q.name)) ports) all) (indices p.range)) more
+      by true more = list_all-append own_output (map (λ i. (p.name, i)) (indices p.range)) (flat_map (λ (q : PortView). map (λ i. (q.name, i)) (indices q.range)) later) ∙ and_from _ _ (bits_own p.name (and_parts _ _ all).0 (indices p.range)) more
       by false more = more
 
   outputs_are : output_bits s ≡ flat_map (λ (p : PortView). map (λ i. (p.name, i)) (indices p.range)) (filter (λ (p : PortView). not (is_input p)) f.source.ports)
   outputs_are = rw (top f flat) refl
 
   -- ---- all together
-
-  own_by : (b : Bool) → not b ≡ true → b ≡ false
-  own_by true e = absurd (false≢true e)
-  own_by false e = refl
 
   pub plain : IsPlain (design_of f) one_set
   plain = record {
@@ -183,7 +177,7 @@ module _ (f : Flat) (flat : is_flat f ≡ true) where
     same_cell = same_cell f flat;
     same_pin = same_pin;
     pins_own = pins_own;
-    ports_own = λ n j e. own_by (is_supply f n) e;
+    ports_own = λ n j e. not-true _ e;
     outputs_own = subst (λ bits. list_all own_output bits ≡ true) (sym outputs_are) (ports_own f.source.ports (ports_free f flat));
     cells_joined = cells_joined;
     drivers_joined = λ n. (port_supply f flat (power_port f) (power_is f flat), port_supply f flat (ground_port f) (ground_is f flat));

@@ -2,16 +2,17 @@
 use Rattle.std.proofs.Common.{◌≡◌, Bool, true, false, not, ◌||◌, ◌&&◌, cond, List, [], ◌∷◌, map, Option, Some, None, refl, sym, ◌∙◌, ap}
 use Rattle.std.specs.Prelude.{bytes_eq, option_map, option_and_then, is_some}
 use Rattle.std.specs.List.{list_all, list_any}
-use Rattle.std.proofs.lemmas.Bool.{false≢true}
+use Rattle.std.proofs.lemmas.Bool.{and_parts, or_left, or_right, false≢true, not-true}
 use Rattle.lp_model.specs.NetlistView.{PortView, InstanceView, AssignView, ModuleView}
 use Rattle.lp_model.specs.LibraryView.{PinView, CellView}
 use Rattle.lp_design.specs.Keys.{Name, Path}
 use Rattle.lp_design.specs.Netlists.{Structure, first, module_named, cell_named, instance_named, module_at, cell_at}
 use Rattle.lp_plain.specs.Cells.{is_plain_cell}
+use Rattle.lp_plain.proofs.Reading.{all-first}
 use Rattle.lp_flat.specs.Designs.{Flat, design_of}
 use Rattle.lp_flat.specs.Netlists.{power_port, ground_port, cell_of, powered_instance, powered, is_supply, netlist_of}
 use Rattle.lp_flat.specs.Tests.{is_pg_name, are_distinct, has_names_apart, are_free, fits_cell, is_flat_instance, has_no_assign, is_flat}
-use Rattle.lp_flat.proofs.Lists.{left_part, right_part, not-is, name-self, told_apart, turned, all-found}
+use Rattle.lp_flat.proofs.Lists.{name-self, told_apart, turned}
 
 module _ (f : Flat) (flat : is_flat f ≡ true) where
   abbrev pub source : Structure
@@ -22,40 +23,30 @@ module _ (f : Flat) (flat : is_flat f ≡ true) where
 
   -- ---- what the test says
 
-  abbrev behind_apart : Bool
-  behind_apart = has_no_assign f.source.assigns && (list_all (λ (p : PortView). not (is_supply f p.name)) f.source.ports && list_all (is_flat_instance f) f.source.instances)
-
   pub ports_apart : bytes_eq (power_port f) (ground_port f) ≡ false
-  ports_apart = not-is (bytes_eq (power_port f) (ground_port f)) (left_part (not (bytes_eq (power_port f) (ground_port f))) behind_apart flat)
-
-  behind : behind_apart ≡ true
-  behind = right_part (not (bytes_eq (power_port f) (ground_port f))) behind_apart flat
+  ports_apart = not-true _ (and_parts _ _ flat).0
 
   pub no_assign : f.source.assigns ≡ []
-  no_assign = by f.source.assigns (left_part (has_no_assign f.source.assigns) (list_all (λ (p : PortView). not (is_supply f p.name)) f.source.ports && list_all (is_flat_instance f) f.source.instances) behind)
+  no_assign = by f.source.assigns (and_parts _ _ (and_parts _ _ flat).1).0
     where
       by : (xs : List AssignView) → has_no_assign xs ≡ true → xs ≡ []
       by [] e = refl
       by (x ∷ xs) e = absurd (false≢true e)
 
-  rest : (list_all (λ (p : PortView). not (is_supply f p.name)) f.source.ports && list_all (is_flat_instance f) f.source.instances) ≡ true
-  rest = right_part (has_no_assign f.source.assigns) (list_all (λ (p : PortView). not (is_supply f p.name)) f.source.ports && list_all (is_flat_instance f) f.source.instances) behind
+  ports_and_instances : (list_all (λ (p : PortView). not (is_supply f p.name)) f.source.ports && list_all (is_flat_instance f) f.source.instances) ≡ true
+  ports_and_instances = (and_parts _ _ (and_parts _ _ flat).1).1
 
   pub ports_free : list_all (λ (p : PortView). not (is_supply f p.name)) f.source.ports ≡ true
-  ports_free = left_part (list_all (λ (p : PortView). not (is_supply f p.name)) f.source.ports) (list_all (is_flat_instance f) f.source.instances) rest
+  ports_free = (and_parts _ _ ports_and_instances).0
 
   pub instances_flat : list_all (is_flat_instance f) f.source.instances ≡ true
-  instances_flat = right_part (list_all (λ (p : PortView). not (is_supply f p.name)) f.source.ports) (list_all (is_flat_instance f) f.source.instances) rest
+  instances_flat = (and_parts _ _ ports_and_instances).1
 
   pub power_is : is_supply f (power_port f) ≡ true
-  power_is = ap (λ b. b || bytes_eq (ground_port f) (power_port f)) (name-self (power_port f))
+  power_is = or_left _ _ (name-self (power_port f))
 
   pub ground_is : is_supply f (ground_port f) ≡ true
-  ground_is = rw (name-self (ground_port f)) (or_true (bytes_eq (power_port f) (ground_port f)))
-    where
-      or_true : (b : Bool) → (b || true) ≡ true
-      or_true true = refl
-      or_true false = refl
+  ground_is = or_right _ _ (name-self (ground_port f))
 
   -- a name of the design is that of no supply port, and another way round
   pub own_name : (n : Name) → is_supply f n ≡ false → (k : Name) → is_supply f k ≡ true → bytes_eq n k ≡ false
@@ -65,10 +56,10 @@ module _ (f : Flat) (flat : is_flat f ≡ true) where
 
   module _ (x : InstanceView) (fits : is_flat_instance f x ≡ true) where
     pub other_target : bytes_eq f.source.name x.target ≡ false
-    other_target = not-is (bytes_eq f.source.name x.target) (left_part (not (bytes_eq f.source.name x.target)) (fits_cell f x.connections (cell_of f x.target)) fits)
+    other_target = not-true _ (and_parts _ _ fits).0
 
     pub cell_fits : fits_cell f x.connections (cell_of f x.target) ≡ true
-    cell_fits = right_part (not (bytes_eq f.source.name x.target)) (fits_cell f x.connections (cell_of f x.target)) fits
+    cell_fits = (and_parts _ _ fits).1
 
     pub module_none : module_named source x.target ≡ None
     module_none = ap (λ b. cond b (Some f.source) None) other_target
@@ -88,28 +79,25 @@ module _ (f : Flat) (flat : is_flat f ≡ true) where
       fits_it = ap (fits_cell f x.connections) (sym cell) ∙ cell_fits
 
       pub plain_is : is_plain_cell c ≡ true
-      plain_is = left_part (is_plain_cell c) (has_names_apart c && are_free f c x.connections) fits_it
+      plain_is = (and_parts _ _ fits_it).0
 
-      behind_plain : (has_names_apart c && are_free f c x.connections) ≡ true
-      behind_plain = right_part (is_plain_cell c) (has_names_apart c && are_free f c x.connections) fits_it
-
-      pub names_apart : has_names_apart c ≡ true
-      names_apart = left_part (has_names_apart c) (are_free f c x.connections) behind_plain
+      names_and_connections : (has_names_apart c && are_free f c x.connections) ≡ true
+      names_and_connections = (and_parts _ _ fits_it).1
 
       pub free : are_free f c x.connections ≡ true
-      free = right_part (has_names_apart c) (are_free f c x.connections) behind_plain
+      free = (and_parts _ _ names_and_connections).1
 
       pub pins_apart : list_all (λ (q : PinView). not (is_pg_name c.pgs q.name)) c.pins ≡ true
-      pins_apart = left_part (list_all (λ (q : PinView). not (is_pg_name c.pgs q.name)) c.pins) (are_distinct c.pgs) names_apart
+      pins_apart = (and_parts _ _ (and_parts _ _ names_and_connections).0).0
 
       pub pgs_distinct : are_distinct c.pgs ≡ true
-      pgs_distinct = right_part (list_all (λ (q : PinView). not (is_pg_name c.pgs q.name)) c.pins) (are_distinct c.pgs) names_apart
+      pgs_distinct = (and_parts _ _ (and_parts _ _ names_and_connections).0).1
 
   not_target : (xs : List InstanceView) → list_all (is_flat_instance f) xs ≡ true → list_any (λ (i : InstanceView). bytes_eq i.target f.source.name) xs ≡ false
   not_target [] all = refl
   not_target (x ∷ xs) all =
-      let here : bytes_eq x.target f.source.name ≡ false = turned f.source.name x.target (other_target x (left_part (is_flat_instance f x) (list_all (is_flat_instance f) xs) all)) in
-      ap (λ b. b || list_any (λ (i : InstanceView). bytes_eq i.target f.source.name) xs) here ∙ not_target xs (right_part (is_flat_instance f x) (list_all (is_flat_instance f) xs) all)
+      let here : bytes_eq x.target f.source.name ≡ false = turned f.source.name x.target (other_target x (and_parts _ _ all).0) in
+      ap (λ b. b || list_any (λ (i : InstanceView). bytes_eq i.target f.source.name) xs) here ∙ not_target xs (and_parts _ _ all).1
 
   same_targets : (n : Name) (xs : List InstanceView) → list_any (λ (i : InstanceView). bytes_eq i.target n) (map (powered_instance f) xs) ≡ list_any (λ (i : InstanceView). bytes_eq i.target n) xs
   same_targets n [] = refl
@@ -132,7 +120,7 @@ module _ (f : Flat) (flat : is_flat f ≡ true) where
 
   -- an instance that is found is one of the list
   pub found_flat : (n : Name) (x : InstanceView) → instance_named f.source n ≡ Some x → is_flat_instance f x ≡ true
-  found_flat n x e = all-found (is_flat_instance f) (λ (i : InstanceView). bytes_eq i.name n) f.source.instances x instances_flat e
+  found_flat n x e = all-first (is_flat_instance f) (λ (i : InstanceView). bytes_eq i.name n) f.source.instances x instances_flat e
 
   -- there is no module below the top
   below_top : (y : Name) (o : Option InstanceView) → instance_named f.source y ≡ o → option_and_then (λ (x : InstanceView). module_named source x.target) o ≡ None

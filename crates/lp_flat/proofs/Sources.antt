@@ -1,19 +1,19 @@
 -- The nodes of a flat design have the same sources in its netlist, and the other nodes come from the supply ports.
 use Rattle.std.proofs.Common.{◌≡◌, ℕ, Bool, true, false, not, ◌||◌, ◌&&◌, cond, List, [], ◌∷◌, ◌++◌, map, Option, Some, None, refl, sym, ◌∙◌, ap, subst}
 use Rattle.std.specs.Prelude.{bytes_eq, filter, flat_map, is_some, is_none}
-use Rattle.std.specs.List.{list_all, list_any}
-use Rattle.std.proofs.lemmas.Bool.{false≢true, true≢false}
+use Rattle.std.specs.List.{AllByRecursion, list_all, list_any}
+use Rattle.std.proofs.lemmas.Bool.{and_parts, or_parts, false≢true, not-true}
+use Rattle.std.proofs.lemmas.List.{append-nil}
 use Rattle.lp_model.specs.NetlistView.{BitView, NetBit, SelectBit, ConstBit, PortView, ConnectionView, ConnectionsView, ByName, ByPosition, InstanceView}
 use Rattle.lp_model.specs.LibraryView.{SwitchedView, PgPinView, PinView, CellView}
 use Rattle.lp_design.specs.Keys.{Name, Inner, Outer, PortBit, Source, CellPin, SwitchedPin, Environment, From, same_node, same_index}
 use Rattle.lp_design.specs.Netlists.{Structure, module_named, indices, node_of, connected, is_input}
 use Rattle.lp_design.specs.Graph.{from_port, is_output_pin, touches, when, some_of, and_more, from_cell, from_one, in_module, outside, sources_of}
-use Rattle.lp_plain.specs.Carried.{Each}
-use Rattle.lp_plain.proofs.Reading.{no_switched}
+use Rattle.lp_plain.proofs.Reading.{promises}
 use Rattle.lp_flat.specs.Designs.{Flat}
 use Rattle.lp_flat.specs.Netlists.{power_port, ground_port, supply_input, joined, joins_of, with_joins, cell_of, powered_instance, powered, is_supply, is_own}
 use Rattle.lp_flat.specs.Tests.{is_pg_name, is_free_bit, is_free_connection, are_free, fits_cell, is_flat_instance, is_flat}
-use Rattle.lp_flat.proofs.Lists.{left_part, right_part, not-is, filter-two, all-weaker, bits_named-more, bits_named-all, joins-none}
+use Rattle.lp_flat.proofs.Lists.{filter-two, all-weaker, bits_named-more, bits_named-all, joins-none}
 use Rattle.lp_flat.proofs.Graphs.{source, written, ports_free, own_name, cell_fits, module_none, module_none_written, plain_is, free, pins_apart, top, top_written}
 
 -- ---- what is connected
@@ -26,12 +26,12 @@ module _ (f : Flat) (c : CellView) where
   free_bits : (n : Name) (cs : ConnectionsView) → are_free f c cs ≡ true → list_all (is_free_bit f) (connected [] n cs) ≡ true
   free_bits n (ByName cs) e =
       bits_named-all (is_free_bit f) n cs
-      (all-weaker (is_free_connection f c) (λ (k : ConnectionView). list_all (is_free_bit f) k.bits) (λ k h. right_part (not (is_pg_name c.pgs k.port)) (list_all (is_free_bit f) k.bits) h) cs e)
+      (all-weaker (is_free_connection f c) (λ (k : ConnectionView). list_all (is_free_bit f) k.bits) (λ k h. (and_parts _ _ h).1) cs e)
   free_bits n (ByPosition values) e = absurd (false≢true e)
 
-pub each-append : {A : Type 0} (P : A → Type 0) (xs ys : List A) → Each P xs → Each P ys → Each P (xs ++ ys)
-each-append P [] ys a b = b
-each-append P (x ∷ xs) ys a b = (a.0, each-append P xs ys a.1 b)
+pub AllByRecursion-append : {A : Type 0} (P : A → Type 0) (xs ys : List A) → AllByRecursion P xs → AllByRecursion P ys → AllByRecursion P (xs ++ ys)
+AllByRecursion-append P [] ys a b = b
+AllByRecursion-append P (x ∷ xs) ys a b = (a.0, AllByRecursion-append P xs ys a.1 b)
 
 module _ (f : Flat) (flat : is_flat f ≡ true) where
   abbrev s : Structure
@@ -44,6 +44,13 @@ module _ (f : Flat) (flat : is_flat f ≡ true) where
   free-own (NetBit n) e = e
   free-own (SelectBit n i) e = e
   free-own (ConstBit b) e = refl
+
+  -- none is switched, and ways come from nodes of the design
+  abbrev pub IsGood : Source → Type 0
+  IsGood (CellPin p y q) = Unit {0}
+  IsGood (SwitchedPin p y g) = ⊥
+  IsGood Environment = Unit {0}
+  IsGood (From way j) = is_own f j ≡ true
 
   -- ---- one cell instance
 
@@ -65,13 +72,13 @@ module _ (f : Flat) (flat : is_flat f ≡ true) where
       unfolding pin_source
       pins_same [] all = refl
       pins_same (q ∷ qs) all = λ r.
-          and_more (when (is_output_pin q && touches [] n i (connected_same q.name (not-is (is_pg_name c.pgs q.name) (left_part (not (is_pg_name c.pgs q.name)) (list_all (λ (z : PinView). not (is_pg_name c.pgs z.name)) qs) all)) r)) (CellPin [] x.name q.name))
-          (pins_same qs (right_part (not (is_pg_name c.pgs q.name)) (list_all (λ (z : PinView). not (is_pg_name c.pgs z.name)) qs) all) r)
+          and_more (when (is_output_pin q && touches [] n i (connected_same q.name (not-true _ (and_parts _ _ all).0) r)) (CellPin [] x.name q.name))
+          (pins_same qs (and_parts _ _ all).1 r)
 
       pgs_none : (y : InstanceView) (gs : List PgPinView) → list_all (λ (g : PgPinView). is_none g.switched) gs ≡ true → some_of (pg_source y) gs ≡ []
       unfolding pg_source
       pgs_none y [] all = refl
-      pgs_none y (g ∷ gs) all = by g.switched (left_part (is_none g.switched) (list_all (λ (h : PgPinView). is_none h.switched) gs) all) (pgs_none y gs (right_part (is_none g.switched) (list_all (λ (h : PgPinView). is_none h.switched) gs) all))
+      pgs_none y (g ∷ gs) all = by g.switched (and_parts _ _ all).0 (pgs_none y gs (and_parts _ _ all).1)
         where
           by : (o : Option SwitchedView) → is_none o ≡ true → some_of (pg_source y) gs ≡ [] → and_more (when (is_some o && touches [] n i (connected [] g.name y.connections)) (SwitchedPin [] y.name g.name)) (some_of (pg_source y) gs) ≡ []
           by None e more = more
@@ -79,11 +86,7 @@ module _ (f : Flat) (flat : is_flat f ≡ true) where
 
       cell_source : (y : InstanceView) → from_cell [] n i y c ≡ some_of (pin_source y) c.pins
       unfolding pin_source pg_source
-      cell_source y = ap (λ r. some_of (pin_source y) c.pins ++ r) (pgs_none y c.pgs (no_switched c (plain_is f flat x fits c cell))) ∙ append_nil (some_of (pin_source y) c.pins)
-        where
-          append_nil : (xs : List Source) → (xs ++ []) ≡ xs
-          append_nil [] = refl
-          append_nil (z ∷ xs) = ap (λ r. z ∷ r) (append_nil xs)
+      cell_source y = ap (λ r. some_of (pin_source y) c.pins ++ r) (pgs_none y c.pgs (promises c (plain_is f flat x fits c cell)).no_switched) ∙ append-nil (some_of (pin_source y) c.pins)
 
       one_source : from_one s [] n i x ≡ some_of (pin_source x) c.pins
       one_source = rw (module_none f flat x fits, cell) (cell_source x)
@@ -98,15 +101,15 @@ module _ (f : Flat) (flat : is_flat f ≡ true) where
       pub one_same : from_one t [] n i (powered_instance f x) ≡ from_one s [] n i x
       one_same = one_written ∙ (pins_same c.pins (pins_apart f flat x fits c cell) ∙ sym one_source)
 
-      -- ---- all sources are good: none is switched, and ways come from nodes of the design
+      -- ---- all sources are good
 
       pub no_touch : is_supply f n ≡ true → (bits : List BitView) → list_all (is_free_bit f) bits ≡ true → touches [] n i bits ≡ false
       no_touch e [] all = refl
-      no_touch e (b ∷ bits) all = by b (left_part (is_free_bit f b) (list_all (is_free_bit f) bits) all) (no_touch e bits (right_part (is_free_bit f b) (list_all (is_free_bit f) bits) all))
+      no_touch e (b ∷ bits) all = by b (and_parts _ _ all).0 (no_touch e bits (and_parts _ _ all).1)
         where
           by : (z : BitView) → is_free_bit f z ≡ true → touches [] n i bits ≡ false → (same_node (node_of [] z) (Inner n i []) || touches [] n i bits) ≡ false
-          by (NetBit k) h more = ap (λ a. (a && (same_index None i && true)) || touches [] n i bits) (own_name f flat k (not-is (is_supply f k) h) n e) ∙ more
-          by (SelectBit k j) h more = ap (λ a. (a && (same_index (Some j) i && true)) || touches [] n i bits) (own_name f flat k (not-is (is_supply f k) h) n e) ∙ more
+          by (NetBit k) h more = ap (λ a. (a && (same_index None i && true)) || touches [] n i bits) (own_name f flat k (not-true _ h) n e) ∙ more
+          by (SelectBit k j) h more = ap (λ a. (a && (same_index (Some j) i && true)) || touches [] n i bits) (own_name f flat k (not-true _ h) n e) ∙ more
           by (ConstBit a) h more = more
 
       pins_none : is_supply f n ≡ true → (qs : List PinView) → some_of (pin_source x) qs ≡ []
@@ -121,31 +124,19 @@ module _ (f : Flat) (flat : is_flat f ≡ true) where
       pub one_none : is_supply f n ≡ true → from_one s [] n i x ≡ []
       one_none e = one_source ∙ pins_none e c.pins
 
-      abbrev Good : Source → Type 0
-      Good (CellPin p y q) = Unit {0}
-      Good (SwitchedPin p y g) = ⊥
-      Good Environment = Unit {0}
-      Good (From way j) = is_own f j ≡ true
-
-      pins_good : (qs : List PinView) → Each Good (some_of (pin_source x) qs)
+      pins_good : (qs : List PinView) → AllByRecursion IsGood (some_of (pin_source x) qs)
       unfolding pin_source
       pins_good [] = tt
       pins_good (q ∷ qs) = by (is_output_pin q && touches [] n i (connected [] q.name x.connections)) (pins_good qs)
         where
-          by : (b : Bool) → Each Good (some_of (pin_source x) qs) → Each Good (and_more (when b (CellPin [] x.name q.name)) (some_of (pin_source x) qs))
+          by : (b : Bool) → AllByRecursion IsGood (some_of (pin_source x) qs) → AllByRecursion IsGood (and_more (when b (CellPin [] x.name q.name)) (some_of (pin_source x) qs))
           by true more = (tt, more)
           by false more = more
 
-      pub one_good : Each Good (from_one s [] n i x)
-      one_good = subst (Each Good) (sym one_source) (pins_good c.pins)
+      pub one_good : AllByRecursion IsGood (from_one s [] n i x)
+      one_good = subst (AllByRecursion IsGood) (sym one_source) (pins_good c.pins)
 
   -- ---- all instances
-
-  abbrev pub IsGood : Source → Type 0
-  IsGood (CellPin p y q) = Unit {0}
-  IsGood (SwitchedPin p y g) = ⊥
-  IsGood Environment = Unit {0}
-  IsGood (From way j) = is_own f j ≡ true
 
   -- an instance that fits has a cell
   with_cell : (P : InstanceView → Type 0) → ((x : InstanceView) (fits : is_flat_instance f x ≡ true) (c : CellView) → cell_of f x.target ≡ Some c → P x) → (x : InstanceView) → is_flat_instance f x ≡ true → P x
@@ -159,47 +150,32 @@ module _ (f : Flat) (flat : is_flat f ≡ true) where
     pub instances_same : (xs : List InstanceView) → list_all (is_flat_instance f) xs ≡ true → flat_map (from_one t [] n i) (map (powered_instance f) xs) ≡ flat_map (from_one s [] n i) xs
     instances_same [] all = refl
     instances_same (x ∷ xs) all = λ r.
-        with_cell (λ y. from_one t [] n i (powered_instance f y) ≡ from_one s [] n i y) (λ y h c e. one_same y h c e n i) x (left_part (is_flat_instance f x) (list_all (is_flat_instance f) xs) all) r
-        ++ instances_same xs (right_part (is_flat_instance f x) (list_all (is_flat_instance f) xs) all) r
+        with_cell (λ y. from_one t [] n i (powered_instance f y) ≡ from_one s [] n i y) (λ y h c e. one_same y h c e n i) x (and_parts _ _ all).0 r
+        ++ instances_same xs (and_parts _ _ all).1 r
 
     pub instances_none : is_supply f n ≡ true → (xs : List InstanceView) → list_all (is_flat_instance f) xs ≡ true → flat_map (from_one s [] n i) xs ≡ []
     instances_none e [] all = refl
     instances_none e (x ∷ xs) all = λ r.
-        with_cell (λ y. from_one s [] n i y ≡ []) (λ y h c g. one_none y h c g n i e) x (left_part (is_flat_instance f x) (list_all (is_flat_instance f) xs) all) r
-        ++ instances_none e xs (right_part (is_flat_instance f x) (list_all (is_flat_instance f) xs) all) r
+        with_cell (λ y. from_one s [] n i y ≡ []) (λ y h c g. one_none y h c g n i e) x (and_parts _ _ all).0 r
+        ++ instances_none e xs (and_parts _ _ all).1 r
 
-    pub instances_good : (xs : List InstanceView) → list_all (is_flat_instance f) xs ≡ true → Each IsGood (flat_map (from_one s [] n i) xs)
+    pub instances_good : (xs : List InstanceView) → list_all (is_flat_instance f) xs ≡ true → AllByRecursion IsGood (flat_map (from_one s [] n i) xs)
     instances_good [] all = tt
     instances_good (x ∷ xs) all =
-        each-append IsGood (from_one s [] n i x) (flat_map (from_one s [] n i) xs)
-        (with_cell (λ y. Each IsGood (from_one s [] n i y)) (λ y h c g. one_good y h c g n i) x (left_part (is_flat_instance f x) (list_all (is_flat_instance f) xs) all))
-        (instances_good xs (right_part (is_flat_instance f x) (list_all (is_flat_instance f) xs) all))
+        AllByRecursion-append IsGood (from_one s [] n i x) (flat_map (from_one s [] n i) xs)
+        (with_cell (λ y. AllByRecursion IsGood (from_one s [] n i y)) (λ y h c g. one_good y h c g n i) x (and_parts _ _ all).0)
+        (instances_good xs (and_parts _ _ all).1)
 
     -- ---- ports
 
-    abbrev named_input : PortView → Bool
-    named_input port = bytes_eq port.name n && is_input port
-
-    and_false : (b : Bool) → (b && false) ≡ false
-    and_false true = refl
-    and_false false = refl
-
     pub not_named : (test : PortView → Bool) → is_supply f n ≡ true → list_all (λ (p : PortView). not (bytes_eq p.name n && test p)) f.source.ports ≡ true
-    not_named test e = all-weaker (λ (p : PortView). not (is_supply f p.name)) (λ (p : PortView). not (bytes_eq p.name n && test p)) (λ p h. ap (λ b. not (b && test p)) (own_name f flat p.name (not-is (is_supply f p.name) h) n e)) f.source.ports (ports_free f flat)
+    not_named test e = all-weaker (λ (p : PortView). not (is_supply f p.name)) (λ (p : PortView). not (bytes_eq p.name n && test p)) (λ p h. ap (λ b. not (b && test p)) (own_name f flat p.name (not-true _ h) n e)) f.source.ports (ports_free f flat)
 
     own_left : is_supply f n ≡ false → bytes_eq (power_port f) n ≡ false
-    own_left e = by (bytes_eq (power_port f) n) e
-      where
-        by : (b : Bool) → (b || bytes_eq (ground_port f) n) ≡ false → b ≡ false
-        by true h = absurd (true≢false h)
-        by false h = refl
+    own_left e = (or_parts _ _ e).0
 
     own_right : is_supply f n ≡ false → bytes_eq (ground_port f) n ≡ false
-    own_right e = by (bytes_eq (power_port f) n) (bytes_eq (ground_port f) n) e
-      where
-        by : (b x : Bool) → (b || x) ≡ false → x ≡ false
-        by true x h = absurd (true≢false h)
-        by false x h = h
+    own_right e = (or_parts _ _ e).1
 
     pub ports_same : is_supply f n ≡ false → (test : PortView → Bool) → filter (λ (p : PortView). bytes_eq p.name n && test p) (powered f).ports ≡ filter (λ (p : PortView). bytes_eq p.name n && test p) f.source.ports
     ports_same e test =
@@ -207,11 +183,15 @@ module _ (f : Flat) (flat : is_flat f ≡ true) where
         (ap (λ b. b && test (supply_input (power_port f))) (own_left e))
         (ap (λ b. b && test (supply_input (ground_port f))) (own_right e))
 
-    pub ports_good : is_supply f n ≡ false → (ports : List PortView) → Each IsGood (flat_map (from_port s [] n i) ports)
+    pub ports_good : is_supply f n ≡ false → (ports : List PortView) → AllByRecursion IsGood (flat_map (from_port s [] n i) ports)
     ports_good e [] = tt
-    ports_good e (p ∷ ports) = (ap not e, ports_good e ports)
+    ports_good e (p ∷ ports) = by (list_any (same_index i) (indices p.range)) (ports_good e ports)
+      where
+        by : (b : Bool) → AllByRecursion IsGood (flat_map (from_port s [] n i) ports) → AllByRecursion IsGood (cond b (From (PortBit [] n i) (Outer n i) ∷ []) [] ++ flat_map (from_port s [] n i) ports)
+        by true more = (ap not e, more)
+        by false more = more
 
-    pub outside_good : is_supply f n ≡ false → (ports : List PortView) → Each IsGood (map (outside n i) ports)
+    pub outside_good : is_supply f n ≡ false → (ports : List PortView) → AllByRecursion IsGood (map (outside n i) ports)
     outside_good e [] = tt
     outside_good e (p ∷ ports) = (by (is_input p), outside_good e ports)
       where

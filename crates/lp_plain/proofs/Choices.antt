@@ -2,7 +2,7 @@
 use Rattle.std.proofs.Common.{◌≡◌, Bool, true, false, not, ◌||◌, ◌&&◌, cond, List, [], ◌∷◌, ◌++◌, map, Option, Some, ◌⊎◌, inl, inr, refl, sym, ◌∙◌, ap}
 use Rattle.std.specs.Prelude.{filter, bytes_eq}
 use Rattle.std.specs.List.{list_all, zip}
-use Rattle.std.proofs.lemmas.Bool.{both_ways}
+use Rattle.std.proofs.lemmas.Bool.{and_right, or_right, both_ways}
 use Rattle.lp_tern.specs.declared.tern.Tern.{Tern}
 use Rattle.lp_tern.specs.declared.tern.Tern.TheVariants.{Zero, One, X}
 use Rattle.lp_expr.specs.Formula.{completions}
@@ -45,19 +45,11 @@ in-completed One false v c m h = absurd m
 in-completed X false v c m h = in-left (false ∷ c) (map (λ x. false ∷ x) (completions v)) (map (λ x. true ∷ x) (completions v) ++ []) (in-behind false c (completions v) h)
 in-completed X true v c m h = in-right (true ∷ c) (map (λ x. false ∷ x) (completions v)) (map (λ x. true ∷ x) (completions v) ++ []) (in-left (true ∷ c) (map (λ x. true ∷ x) (completions v)) [] (in-behind true c (completions v) h))
 
-and_false : (a : Bool) → (a && false) ≡ false
-and_false true = refl
-and_false false = refl
-
-or_true : (a : Bool) → (a || true) ≡ true
-or_true true = refl
-or_true false = refl
-
 -- one that fails makes the whole fail
 one_fails : (p : List Bool → Bool) (x : List Bool) (xs : List (List Bool)) → In x xs → p x ≡ false → list_all p xs ≡ false
 one_fails p x [] h e = absurd h
 one_fails p x (y ∷ xs) (inl same) e = ap (λ b. b && list_all p xs) (ap p (sym same) ∙ e)
-one_fails p x (y ∷ xs) (inr h) e = ap (λ b. p y && b) (one_fails p x xs h e) ∙ and_false (p y)
+one_fails p x (y ∷ xs) (inr h) e = ap (λ b. p y && b) (one_fails p x xs h e) ∙ and_right _ false refl
 
 in-filtered : (q : List Bool → Bool) (x : List Bool) (xs : List (List Bool)) → In x xs → q x ≡ true → In x (filter q xs)
 in-filtered q x [] h e = absurd h
@@ -98,14 +90,14 @@ module _ (power gnd : Name) (apart : bytes_eq power gnd ≡ false) (apart_too : 
   source_of_kind k = Some (FromTop (cond k power gnd))
 
   agree_chosen : (a b k j : Bool) → agree_if_same (source_of_kind k, cond k a b) (source_of_kind j, cond j a b) ≡ true
-  agree_chosen true b true true = or_true (not (bytes_eq power power))
-  agree_chosen false b true true = or_true (not (bytes_eq power power))
+  agree_chosen true b true true = or_right _ true refl
+  agree_chosen false b true true = or_right _ true refl
   agree_chosen true b true false = ap (λ s. not s || b) apart
   agree_chosen false b true false = ap (λ s. not s || not b) apart
   agree_chosen a true false true = ap (λ s. not s || a) apart_too
   agree_chosen a false false true = ap (λ s. not s || not a) apart_too
-  agree_chosen a true false false = or_true (not (bytes_eq gnd gnd))
-  agree_chosen a false false false = or_true (not (bytes_eq gnd gnd))
+  agree_chosen a true false false = or_right _ true refl
+  agree_chosen a false false false = or_right _ true refl
 
   each_chosen : (a b : Bool) (f : Option SupplySource × Bool → Bool) → ((k : Bool) → f (source_of_kind k, cond k a b) ≡ true) → (kinds : List Bool) → list_all f (zip (map source_of_kind kinds) (chosen a b kinds)) ≡ true
   each_chosen a b f h [] = refl

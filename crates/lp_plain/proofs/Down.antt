@@ -1,8 +1,8 @@
 -- A power-down function that follows the supply to which all pins are joined is 0 exactly where that supply is on.
 use Rattle.std.proofs.Common.{◌≡◌, ℕ, zero, suc, Bool, true, false, not, ◌&&◌, cond, List, [], ◌∷◌, map, Option, Some, None, refl, sym, ◌∙◌, ap, subst}
 use Rattle.std.specs.Prelude.{is_some, bytes_eq, slice_get, filter}
-use Rattle.std.specs.List.{list_all, zip}
-use Rattle.std.proofs.lemmas.Bool.{false≢true}
+use Rattle.std.specs.List.{AllByRecursion, list_all, zip}
+use Rattle.std.proofs.lemmas.Bool.{and_parts, false≢true}
 use Rattle.lp_tern.specs.declared.tern.Tern.{Tern}
 use Rattle.lp_tern.specs.declared.supply.SupplyState.{SupplyState}
 use Rattle.lp_tern.specs.declared.supply.SupplyState.TheVariants.{On, Off, Unknown}
@@ -13,16 +13,8 @@ use Rattle.lp_design.specs.Netlists.{first}
 use Rattle.lp_design.specs.Settled.{is_on}
 use Rattle.lp_pins.specs.Pins.{SupplySource, FromTop, Powered, PinAssignment, Pair, pair_on, state_from, source_of_pg, onness, pg_named, level_by, levels, sources_named, is_consistent, is_zero_for, is_up}
 use Rattle.lp_plain.specs.Cells.{on_with, levels_with, is_down_with, follows_supply, is_power_at}
-use Rattle.lp_plain.specs.Carried.{Each, IsJoined}
+use Rattle.lp_plain.specs.Carried.{IsJoined}
 use Rattle.lp_plain.proofs.Choices.{level_by_kind, levels_of, source_of_kind, value_of_kind, is_one, zero_where_on}
-
-pub one_part : (a b : Bool) → (a && b) ≡ true → a ≡ true
-one_part true b e = refl
-one_part false b e = absurd (false≢true e)
-
-pub other_part : (a b : Bool) → (a && b) ≡ true → b ≡ true
-other_part true b e = e
-other_part false b e = absurd (false≢true e)
 
 same_bool-true : (a b : Bool) → same_bool a b ≡ true → a ≡ b
 same_bool-true true b e = sym e
@@ -30,18 +22,18 @@ same_bool-true false true e = absurd (false≢true e)
 same_bool-true false false e = refl
 
 -- what holds of each of a list holds of the first that passes a test
-pub Each-first : {A : Type 0} (P : A → Type 0) (p : A → Bool) (xs : List A) (x : A) → Each P xs → first p xs ≡ Some x → P x
-Each-first P p [] x all e = absurd cc
-Each-first P p (y ∷ ys) x all e = by (p y) e (λ f. Each-first P p ys x all.1 f)
+pub AllByRecursion-first : {A : Type 0} (P : A → Type 0) (p : A → Bool) (xs : List A) (x : A) → AllByRecursion P xs → first p xs ≡ Some x → P x
+AllByRecursion-first P p [] x all e = absurd cc
+AllByRecursion-first P p (y ∷ ys) x all e = by (p y) e (λ f. AllByRecursion-first P p ys x all.1 f)
   where
     by : (b : Bool) → (cond b (Some y) (first p ys)) ≡ Some x → (first p ys ≡ Some x → P x) → P x
     by true f rest = let same : y ≡ x = cc in subst P same all.0
     by false f rest = rest f
 
-pub Each-get : {A : Type 0} (P : A → Type 0) (xs : List A) (n : ℕ) (x : A) → Each P xs → slice_get xs n ≡ Some x → P x
-Each-get P [] n x all e = absurd cc
-Each-get P (y ∷ ys) zero x all e = let same : y ≡ x = cc in subst P same all.0
-Each-get P (y ∷ ys) (suc n) x all e = Each-get P ys n x all.1 e
+pub AllByRecursion-get : {A : Type 0} (P : A → Type 0) (xs : List A) (n : ℕ) (x : A) → AllByRecursion P xs → slice_get xs n ≡ Some x → P x
+AllByRecursion-get P [] n x all e = absurd cc
+AllByRecursion-get P (y ∷ ys) zero x all e = let same : y ≡ x = cc in subst P same all.0
+AllByRecursion-get P (y ∷ ys) (suc n) x all e = AllByRecursion-get P ys n x all.1 e
 
 module _ (c : CellView) where
   kind : Name → Bool
@@ -59,8 +51,8 @@ module _ (c : CellView) where
   levels-kinds [] bits all = refl
   levels-kinds (v ∷ vs) [] all = refl
   levels-kinds (v ∷ vs) (b ∷ bits) all = λ i.
-      level-kind (pg_named c v) b (one_part (is_some (pg_named c v)) (list_all (λ u. is_some (pg_named c u)) vs) all) i
-      ∷ levels-kinds vs bits (other_part (is_some (pg_named c v)) (list_all (λ u. is_some (pg_named c u)) vs) all) i
+      level-kind (pg_named c v) b (and_parts _ _ all).0 i
+      ∷ levels-kinds vs bits (and_parts _ _ all).1 i
 
   with-kind : (a b : Bool) (g : Option PgPinView) → is_some g ≡ true → level_by g (on_with a b g) ≡ level_by_kind (is_power_at g) (cond (is_power_at g) a b)
   with-kind a b None e = absurd (false≢true e)
@@ -70,42 +62,39 @@ module _ (c : CellView) where
   unfolding kind
   levels_with-kinds a b [] all = refl
   levels_with-kinds a b (v ∷ vs) all = λ i.
-      with-kind a b (pg_named c v) (one_part (is_some (pg_named c v)) (list_all (λ u. is_some (pg_named c u)) vs) all) i
-      ∷ levels_with-kinds a b vs (other_part (is_some (pg_named c v)) (list_all (λ u. is_some (pg_named c u)) vs) all) i
+      with-kind a b (pg_named c v) (and_parts _ _ all).0 i
+      ∷ levels_with-kinds a b vs (and_parts _ _ all).1 i
 
   module _ (e : ExprView) (follows : follows_supply c e ≡ true) where
     all_named : AllNamed e.variables
-    all_named = one_part (list_all (λ v. is_some (pg_named c v)) e.variables) (is_down_with c e true true && (is_down_with c e true false && (is_down_with c e false true && is_down_with c e false false))) follows
+    all_named = (and_parts _ _ follows).0
 
-    four : (is_down_with c e true true && (is_down_with c e true false && (is_down_with c e false true && is_down_with c e false false))) ≡ true
-    four = other_part (list_all (λ v. is_some (pg_named c v)) e.variables) (is_down_with c e true true && (is_down_with c e true false && (is_down_with c e false true && is_down_with c e false false))) follows
-
-    three : (is_down_with c e true false && (is_down_with c e false true && is_down_with c e false false)) ≡ true
-    three = other_part (is_down_with c e true true) (is_down_with c e true false && (is_down_with c e false true && is_down_with c e false false)) four
-
-    two : (is_down_with c e false true && is_down_with c e false false) ≡ true
-    two = other_part (is_down_with c e true false) (is_down_with c e false true && is_down_with c e false false) three
+    four : (is_down_with c e true true ≡ true) × ((is_down_with c e true false ≡ true) × ((is_down_with c e false true ≡ true) × (is_down_with c e false false ≡ true)))
+    four =
+        let behind_on = and_parts _ _ (and_parts _ _ follows).1 in
+        let behind_power = and_parts _ _ behind_on.1 in
+        (behind_on.0, (behind_power.0, and_parts _ _ behind_power.1))
 
     down : (a b : Bool) → is_down_with c e a b ≡ true
-    down true true = one_part (is_down_with c e true true) (is_down_with c e true false && (is_down_with c e false true && is_down_with c e false false)) four
-    down true false = one_part (is_down_with c e true false) (is_down_with c e false true && is_down_with c e false false) three
-    down false true = one_part (is_down_with c e false true) (is_down_with c e false false) two
-    down false false = other_part (is_down_with c e false true) (is_down_with c e false false) two
+    down true true = four.0
+    down true false = four.1.0
+    down false true = four.1.1.0
+    down false false = four.1.1.1
 
     by_kinds : (a b : Bool) → truth e.steps (map (λ k. level_by_kind k (cond k a b)) (map kind e.variables)) ≡ not (a && b)
     by_kinds a b = ap (truth e.steps) (sym (levels_with-kinds a b e.variables all_named)) ∙ same_bool-true (truth e.steps (levels_with c a b e.variables)) (not (a && b)) (down a b)
 
-    module _ (w : Powered) (p : Path) (x : Name) (power gnd : Name) (apart : bytes_eq power gnd ≡ false) (apart_too : bytes_eq gnd power ≡ false) (joined : Each (IsJoined w p x power gnd) c.pgs) where
+    module _ (w : Powered) (p : Path) (x : Name) (power gnd : Name) (apart : bytes_eq power gnd ≡ false) (apart_too : bytes_eq gnd power ≡ false) (joined : AllByRecursion (IsJoined w p x power gnd) c.pgs) where
       source-kind : (v : Name) (g : Option PgPinView) → pg_named c v ≡ g → is_some g ≡ true → source_of_pg w p x g ≡ source_of_kind power gnd apart apart_too (is_power_at g)
       source-kind v None at e = absurd (false≢true e)
-      source-kind v (Some g) at e = Each-first (IsJoined w p x power gnd) (λ (h : PgPinView). bytes_eq h.name v) c.pgs g joined at
+      source-kind v (Some g) at e = AllByRecursion-first (IsJoined w p x power gnd) (λ (h : PgPinView). bytes_eq h.name v) c.pgs g joined at
 
       sources-kinds : (vs : List Name) → AllNamed vs → sources_named w p x c vs ≡ map (source_of_kind power gnd apart apart_too) (map kind vs)
       unfolding kind
       sources-kinds [] all = refl
       sources-kinds (v ∷ vs) all = λ i.
-          source-kind v (pg_named c v) refl (one_part (is_some (pg_named c v)) (list_all (λ u. is_some (pg_named c u)) vs) all) i
-          ∷ sources-kinds vs (other_part (is_some (pg_named c v)) (list_all (λ u. is_some (pg_named c u)) vs) all) i
+          source-kind v (pg_named c v) refl (and_parts _ _ all).0 i
+          ∷ sources-kinds vs (and_parts _ _ all).1 i
 
       module _ (B : PinAssignment) where
         abbrev pub supply_of : Pair

@@ -17,7 +17,7 @@ use Rattle.lp_plain.specs.Designs.{supply_at, driver_of, receiver_of, IsPlain}
 use Rattle.lp_plain.specs.Carried.{Carries}
 use Rattle.lp_plain.specs.Alike.{shown, shown_by_pins}
 use Rattle.lp_plain.proofs.Down.{up_where_on}
-use Rattle.lp_plain.proofs.Reading.{under_self, kept-lost, no_shifter, pin_follows, apart_too, ports, driver_ports, receiver_ports, read_as_is, pins-same, output-same}
+use Rattle.lp_plain.proofs.Reading.{under_self, kept-lost, promises, pin_follows, apart_too, ports, driver_ports, receiver_ports, read_as_is, pins-same, output-same}
 
 module _ (d : Design) (one : SupplySet) (plain : IsPlain d one) (w : Powered) (own : Node → Bool) (power gnd : Name) (carries : Carries d w own power gnd) where
   -- two assignments, one of each side, with the same values at the nodes of the design and the same states of the one supply
@@ -41,7 +41,7 @@ module _ (d : Design) (one : SupplySet) (plain : IsPlain d one) (w : Powered) (o
 
     module _ (regs : Registers) (p : Path) (x q : Name) where
       in_type : (c : CellView) → cell_at d.structure p x ≡ Some c → (v : PinView) → is_unfit w B p x c v ≡ false
-      in_type c cell v = ap (λ f. is_unfit_at w B p x c v f (first is_data c.pins)) (no_shifter c (plain.cells_plain p x c cell))
+      in_type c cell v = ap (λ f. is_unfit_at w B p x c v f (first is_data c.pins)) (promises c (plain.cells_plain p x c cell)).no_shifter
 
       function_out : (c : CellView) → cell_at d.structure p x ≡ Some c → (v : PinView) → pin_named c q ≡ Some v → (f : Option ExprView) → v.function ≡ f
           → kept (is_up w B p x c v.power_down && not (is_unfit w B p x c v)) (output_by c (pins_read w B p x c) (regs p x) f) ≡ kept (set_on d.network A (supply_at d p)) (output_by c (pins_at d.structure A p x) (regs p x) f)

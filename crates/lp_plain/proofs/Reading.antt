@@ -1,9 +1,9 @@
 -- What nodes and pins of a netlist that carries a plain design read.
-use Rattle.std.proofs.Common.{◌≡◌, ℕ, zero, suc, ◌+◌, Bool, true, false, not, ◌||◌, ◌&&◌, cond, List, [], ◌∷◌, map, Option, Some, None, ◌⊎◌, inl, inr, refl, sym, ◌∙◌, ap, subst, arith}
+use Rattle.std.proofs.Common.{◌≡◌, ℕ, zero, suc, ◌+◌, Bool, true, false, not, ◌||◌, cond, List, [], ◌∷◌, map, Option, Some, None, ◌⊎◌, inl, inr, refl, sym, ◌∙◌, ap, subst, arith}
 use Rattle.std.specs.Prelude.{is_none, bytes_eq, slice_get, if◌then◌else◌, flat_map}
 use Rattle.std.specs.List.{list_all}
-use Rattle.std.proofs.lemmas.Bool.{false≢true, both_ways, le-ltb}
-use Rattle.std.proofs.lemmas.Slice.Eq.{bytes_eq-Decides}
+use Rattle.std.proofs.lemmas.Bool.{and_parts, false≢true, le-ltb}
+use Rattle.lp_text.specs.Texts.{same_text_comm}
 use Rattle.lp_tern.specs.declared.tern.Tern.{Tern}
 use Rattle.lp_tern.specs.declared.tern.Tern.TheVariants.{X}
 use Rattle.lp_tern.specs.declared.supply.SupplyState.{SupplyState}
@@ -21,7 +21,7 @@ use Rattle.lp_pins.specs.Pins.{FromTop, SupplyNodes, Powered, PinAssignment, Pai
 use Rattle.lp_plain.specs.Cells.{follows, is_power_at, is_ground_at, has_ground, is_plain_pin, is_plain_state, is_plain_cell}
 use Rattle.lp_plain.specs.Designs.{IsPlain}
 use Rattle.lp_plain.specs.Carried.{IsJoined, AreJoined, Carries}
-use Rattle.lp_plain.proofs.Down.{one_part, other_part, Each-get}
+use Rattle.lp_plain.proofs.Down.{AllByRecursion-get}
 
 -- nothing is under itself
 pub under_self : (a b : SupplyState) (margin : ℕ) → under_of a b a b margin ≡ false
@@ -33,62 +33,58 @@ under_self Unknown b margin = refl
 
 pub all-first : {A : Type 0} (p f : A → Bool) (xs : List A) (x : A) → list_all p xs ≡ true → first f xs ≡ Some x → p x ≡ true
 all-first p f [] x all e = absurd cc
-all-first p f (y ∷ ys) x all e = by (f y) e (λ g. all-first p f ys x (other_part (p y) (list_all p ys) all) g)
+all-first p f (y ∷ ys) x all e = by (f y) e (λ g. all-first p f ys x (and_parts _ _ all).1 g)
   where
     by : (b : Bool) → (cond b (Some y) (first f ys)) ≡ Some x → (first f ys ≡ Some x → p x ≡ true) → p x ≡ true
-    by true g rest = let same : y ≡ x = cc in ap p (sym same) ∙ one_part (p y) (list_all p ys) all
+    by true g rest = let same : y ≡ x = cc in ap p (sym same) ∙ (and_parts _ _ all).0
     by false g rest = rest g
 
 pub kept-lost : (b : Bool) → kept b X ≡ X
 kept-lost true = refl
 kept-lost false = refl
 
+none-of : {A : Type 0} (o : Option A) → is_none o ≡ true → o ≡ None
+none-of None e = refl
+none-of (Some x) e = absurd (false≢true e)
+
 -- what a plain cell promises
-module _ (c : CellView) (plain : is_plain_cell c ≡ true) where
-  behind_shifter : (is_none c.roles.retention && (list_all (λ (g : PgPinView). is_none g.switched) c.pgs && (list_all (is_plain_pin c) c.pins && is_plain_state c c.state))) ≡ true
-  behind_shifter = other_part (is_none c.roles.shifter) (is_none c.roles.retention && (list_all (λ (g : PgPinView). is_none g.switched) c.pgs && (list_all (is_plain_pin c) c.pins && is_plain_state c c.state))) plain
-
-  behind_retention : (list_all (λ (g : PgPinView). is_none g.switched) c.pgs && (list_all (is_plain_pin c) c.pins && is_plain_state c c.state)) ≡ true
-  behind_retention = other_part (is_none c.roles.retention) (list_all (λ (g : PgPinView). is_none g.switched) c.pgs && (list_all (is_plain_pin c) c.pins && is_plain_state c c.state)) behind_shifter
-
-  behind_switches : (list_all (is_plain_pin c) c.pins && is_plain_state c c.state) ≡ true
-  behind_switches = other_part (list_all (λ (g : PgPinView). is_none g.switched) c.pgs) (list_all (is_plain_pin c) c.pins && is_plain_state c c.state) behind_retention
-
-  none-of : {A : Type 0} (o : Option A) → is_none o ≡ true → o ≡ None
-  none-of None e = refl
-  none-of (Some x) e = absurd (false≢true e)
-
+pub record Promises (c : CellView) : Type 0 where
   pub no_shifter : c.roles.shifter ≡ None
-  no_shifter = none-of c.roles.shifter (one_part (is_none c.roles.shifter) (is_none c.roles.retention && (list_all (λ (g : PgPinView). is_none g.switched) c.pgs && (list_all (is_plain_pin c) c.pins && is_plain_state c c.state))) plain)
-
-  pub no_retention_cell : c.roles.retention ≡ None
-  no_retention_cell = none-of c.roles.retention (one_part (is_none c.roles.retention) (list_all (λ (g : PgPinView). is_none g.switched) c.pgs && (list_all (is_plain_pin c) c.pins && is_plain_state c c.state)) behind_shifter)
-
+  pub no_retention : c.roles.retention ≡ None
   pub no_switched : list_all (λ (g : PgPinView). is_none g.switched) c.pgs ≡ true
-  no_switched = one_part (list_all (λ (g : PgPinView). is_none g.switched) c.pgs) (list_all (is_plain_pin c) c.pins && is_plain_state c c.state) behind_retention
-
+  pub plain_pins : list_all (is_plain_pin c) c.pins ≡ true
   pub plain_state : is_plain_state c c.state ≡ true
-  plain_state = other_part (list_all (is_plain_pin c) c.pins) (is_plain_state c c.state) behind_switches
 
-  pub plain_pin : (v : Name) (q : PinView) → pin_named c v ≡ Some q → is_plain_pin c q ≡ true
-  plain_pin v q e = all-first (is_plain_pin c) (λ (r : PinView). bytes_eq r.name v) c.pins q (one_part (list_all (is_plain_pin c) c.pins) (is_plain_state c c.state) behind_switches) e
+pub promises : (c : CellView) → is_plain_cell c ≡ true → Promises c
+promises c plain =
+    let shifter = and_parts _ _ plain in
+    let retention = and_parts _ _ shifter.1 in
+    let switched = and_parts _ _ retention.1 in
+    let pins = and_parts _ _ switched.1 in
+    record {
+      no_shifter = none-of c.roles.shifter shifter.0;
+      no_retention = none-of c.roles.retention retention.0;
+      no_switched = switched.0;
+      plain_pins = pins.0;
+      plain_state = pins.1;
+    }
+
+module _ (c : CellView) (plain : is_plain_cell c ≡ true) where
+  plain_pin : (v : Name) (q : PinView) → pin_named c v ≡ Some q → is_plain_pin c q ≡ true
+  plain_pin v q e = all-first (is_plain_pin c) (λ (r : PinView). bytes_eq r.name v) c.pins q (promises c plain).plain_pins e
 
   pub pin_power : (v : Name) (q : PinView) → pin_named c v ≡ Some q → is_power_at (slice_get c.pgs q.power) ≡ true
-  pin_power v q e = one_part (is_power_at (slice_get c.pgs q.power)) (has_ground c q.gnd && follows c q.function q.power_down) (plain_pin v q e)
+  pin_power v q e = (and_parts _ _ (plain_pin v q e)).0
 
   pub pin_ground : (v : Name) (q : PinView) → pin_named c v ≡ Some q → has_ground c q.gnd ≡ true
-  pin_ground v q e = one_part (has_ground c q.gnd) (follows c q.function q.power_down) (other_part (is_power_at (slice_get c.pgs q.power)) (has_ground c q.gnd && follows c q.function q.power_down) (plain_pin v q e))
+  pin_ground v q e = (and_parts _ _ (and_parts _ _ (plain_pin v q e)).1).0
 
   pub pin_follows : (v : Name) (q : PinView) → pin_named c v ≡ Some q → follows c q.function q.power_down ≡ true
-  pin_follows v q e = other_part (has_ground c q.gnd) (follows c q.function q.power_down) (other_part (is_power_at (slice_get c.pgs q.power)) (has_ground c q.gnd && follows c q.function q.power_down) (plain_pin v q e))
+  pin_follows v q e = (and_parts _ _ (and_parts _ _ (plain_pin v q e)).1).1
 
 module _ (d : Design) (one : SupplySet) (plain : IsPlain d one) (w : Powered) (own : Node → Bool) (power gnd : Name) (carries : Carries d w own power gnd) where
   pub apart_too : bytes_eq gnd power ≡ false
-  apart_too = by (bytes_eq gnd power) refl
-    where
-      by : (b : Bool) → bytes_eq gnd power ≡ b → b ≡ false
-      by true e = absurd (both_ways (bytes_eq power gnd) carries.apart ((bytes_eq-Decides power gnd).1 (sym ((bytes_eq-Decides gnd power).0 e))))
-      by false e = refl
+  apart_too = same_text_comm gnd power ∙ carries.apart
 
   -- the way back from a node of the design leads over nodes of it
   beginning-own : (fuel : ℕ) (k : Node) → own k ≡ true → own (beginning k (trail w.structure fuel k)) ≡ true
@@ -147,11 +143,11 @@ module _ (d : Design) (one : SupplySet) (plain : IsPlain d one) (w : Powered) (o
 
       power_state : (n : ℕ) (g : Option PgPinView) → slice_get c.pgs n ≡ g → is_power_at g ≡ true → state_of_pg w B p x g ≡ ports.power
       power_state n None is e = absurd (false≢true e)
-      power_state n (Some g) is e = ap (state_from B) (Each-get (IsJoined w p x power gnd) c.pgs n g (carries.cells_joined p x c cell) is) ∙ ap (λ b. state_from B (Some (FromTop (cond b power gnd)))) e
+      power_state n (Some g) is e = ap (state_from B) (AllByRecursion-get (IsJoined w p x power gnd) c.pgs n g (carries.cells_joined p x c cell) is) ∙ ap (λ b. state_from B (Some (FromTop (cond b power gnd)))) e
 
       ground_state : (n : ℕ) (g : Option PgPinView) → slice_get c.pgs n ≡ g → is_ground_at g ≡ true → state_of_pg w B p x g ≡ ports.gnd
       ground_state n None is e = absurd (false≢true e)
-      ground_state n (Some g) is e = ap (state_from B) (Each-get (IsJoined w p x power gnd) c.pgs n g (carries.cells_joined p x c cell) is) ∙ by (is_power g.kind) e
+      ground_state n (Some g) is e = ap (state_from B) (AllByRecursion-get (IsJoined w p x power gnd) c.pgs n g (carries.cells_joined p x c cell) is) ∙ by (is_power g.kind) e
         where
           by : (b : Bool) → not b ≡ true → state_from B (Some (FromTop (cond b power gnd))) ≡ ports.gnd
           by true f = absurd (false≢true f)

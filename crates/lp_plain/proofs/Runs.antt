@@ -2,6 +2,7 @@
 use Rattle.std.proofs.Common.{◌≡◌, ℕ, Bool, true, List, [], ◌∷◌, map, Option, Some, None, refl, sym, ◌∙◌, ap, subst}
 use Rattle.std.specs.Prelude.{option_and_then}
 use Rattle.std.specs.List.{list_all}
+use Rattle.std.proofs.lemmas.Bool.{and_parts}
 use Rattle.lp_tern.specs.declared.tern.Tern.{Tern}
 use Rattle.lp_tern.specs.declared.tern.Tern.TheVariants.{X}
 use Rattle.lp_model.specs.LibraryView.{ExprView, StateView, CellView}
@@ -22,8 +23,7 @@ use Rattle.lp_plain.specs.Cells.{is_plain_state}
 use Rattle.lp_plain.specs.Designs.{IsPlain}
 use Rattle.lp_plain.specs.Carried.{Carries}
 use Rattle.lp_plain.specs.Alike.{output_bits, shown, trace, shown_by_pins, trace_by_pins, at_ports, RunsAlike}
-use Rattle.lp_plain.proofs.Down.{one_part, other_part}
-use Rattle.lp_plain.proofs.Reading.{kept-lost, no_retention_cell, plain_state, pins-same, function-same}
+use Rattle.lp_plain.proofs.Reading.{kept-lost, promises, pins-same, function-same}
 use Rattle.lp_plain.proofs.Equations.{up_same, output_same}
 use Rattle.lp_plain.proofs.Settled.{SameValues, to_pins, alike_pins, pins_settle, pins_only}
 
@@ -58,8 +58,8 @@ module _ (d : Design) (one : SupplySet) (plain : IsPlain d one) (w : Powered) (o
     cell_same : (s t : States) → s.main ≡ t.main → (c : Option CellView) → cell_at d.structure p x ≡ c → main_in w last_pins B t p x c ≡ kept (primary_on d A p) (cell_after c (pins_before d.structure last p x) (pins_at d.structure A p x) (s.main p x))
     cell_same s t e None cell = sym (kept-lost (primary_on d A p))
     cell_same s t e (Some c) cell =
-        ap (λ r. kept (state_is_up w B p x c) (restored_in c r (read_before w last_pins p x c) (pins_read w B p x c) (copy_kept w B p x c (t.saved p x)) (cell_after (Some c) (read_before w last_pins p x c) (pins_read w B p x c) (t.main p x)))) (no_retention_cell c (plain.cells_plain p x c cell))
-        ∙ (state_same c cell c.state (plain_state c (plain.cells_plain p x c cell)) (t.main p x)
+        ap (λ r. kept (state_is_up w B p x c) (restored_in c r (read_before w last_pins p x c) (pins_read w B p x c) (copy_kept w B p x c (t.saved p x)) (cell_after (Some c) (read_before w last_pins p x c) (pins_read w B p x c) (t.main p x)))) (promises c (plain.cells_plain p x c cell)).no_retention
+        ∙ (state_same c cell c.state (promises c (plain.cells_plain p x c cell)).plain_state (t.main p x)
         ∙ ap (λ m. kept (primary_on d A p) (cell_after (Some c) (pins_before d.structure last p x) (pins_at d.structure A p x) (m p x))) (sym e))
 
     main_at : (s t : States) → s.main ≡ t.main → main_in w last_pins B t p x (cell_at w.structure p x) ≡ (states_after d last A s).main p x
@@ -123,8 +123,8 @@ module _ (d : Design) (one : SupplySet) (plain : IsPlain d one) (w : Powered) (o
     outputs_same : (ev : Event) (regs : Registers) (A : Assignment) → ((k : Key) → A k ≡ equation d ev regs k A) → (bits : List (Name × Option ℕ)) → list_all (λ b. own (Outer b.0 b.1)) bits ≡ true → map (shown d A) bits ≡ map (shown_by_pins w (carried ev A)) bits
     outputs_same ev regs A s [] all = refl
     outputs_same ev regs A s (b ∷ bits) all = λ i.
-        output_same d one plain w own power gnd carries A (carried ev A) (carried_alike ev regs A s) b (one_part (own (Outer b.0 b.1)) (list_all (λ c. own (Outer c.0 c.1)) bits) all) i
-        ∷ outputs_same ev regs A s bits (other_part (own (Outer b.0 b.1)) (list_all (λ c. own (Outer c.0 c.1)) bits) all) i
+        output_same d one plain w own power gnd carries A (carried ev A) (carried_alike ev regs A s) b (and_parts _ _ all).0 i
+        ∷ outputs_same ev regs A s bits (and_parts _ _ all).1 i
 
     traces_same : (last : Option Assignment) (s : States) (events : List Event) (run : List Assignment) → IsRun d last s events run → trace d run ≡ trace_by_pins w (output_bits d.structure) (pins_run events run)
     unfolding pins_run

@@ -15,7 +15,7 @@ use Rattle.lp_design.specs.Settled.{At, Of, Logic, State, Assignment, Design, Ev
 use Rattle.lp_pins.specs.Pins.{FromTop, FromSwitched, Powered, PinKey, Signal, Supply, PinAssignment, PinEvent, signal_at, pg_named, top_input, signal_equation, switched_of, switched_state, switch_equation, pin_equation}
 use Rattle.lp_plain.specs.Designs.{IsPlain}
 use Rattle.lp_plain.specs.Carried.{LeadsFromPort, FromNothing, AtPort, Along, Carries}
-use Rattle.lp_plain.proofs.Reading.{all-first, no_switched}
+use Rattle.lp_plain.proofs.Reading.{all-first, promises}
 use Rattle.lp_plain.proofs.Equations.{Alike, signal_same}
 
 module _ (d : Design) (one : SupplySet) (plain : IsPlain d one) (w : Powered) (own : Node → Bool) (power gnd : Name) (carries : Carries d w own power gnd) where
@@ -54,7 +54,7 @@ module _ (d : Design) (one : SupplySet) (plain : IsPlain d one) (w : Powered) (o
 
   switch_unknown : (B : PinAssignment) (regs : Registers) (p : Path) (x g : Name) (c : Option CellView) → cell_at d.structure p x ≡ c → switch_equation w B regs p x g c ≡ Unknown
   switch_unknown B regs p x g None is = refl
-  switch_unknown B regs p x g (Some c) is = ap (switched_state w B regs p x c) (unswitched c (no_switched c (plain.cells_plain p x c is)) g (pg_named c g) refl)
+  switch_unknown B regs p x g (Some c) is = ap (switched_state w B regs p x c) (unswitched c (promises c (plain.cells_plain p x c is)).no_switched g (pg_named c g) refl)
 
   switch_at : (B : PinAssignment) (regs : Registers) (p : Path) (x g : Name) → switch_equation w B regs p x g (cell_at w.structure p x) ≡ Unknown
   switch_at B regs p x g = ap (switch_equation w B regs p x g) (carries.same_cell p x) ∙ switch_unknown B regs p x g (cell_at d.structure p x) refl

@@ -1,7 +1,9 @@
 -- Every power and ground pin of a netlist that carries a design has one supply.
-use Rattle.std.proofs.Common.{◌≡◌, Bool, true, false, ◌&&◌, List, [], ◌∷◌, ◌++◌, map, Option, Some, None, refl, ◌∙◌, ap}
+use Rattle.std.proofs.Common.{◌≡◌, Bool, true, ◌&&◌, List, [], ◌∷◌, map, Option, Some, None, refl, ◌∙◌, ap}
 use Rattle.std.specs.Prelude.{flat_map}
-use Rattle.std.specs.List.{list_all}
+use Rattle.std.specs.List.{AllByRecursion, list_all}
+use Rattle.std.proofs.lemmas.Bool.{and_from}
+use Rattle.std.proofs.lemmas.List.Folds.{list_all-append}
 use Rattle.lp_model.specs.NetlistView.{InstanceView, ModuleView}
 use Rattle.lp_model.specs.LibraryView.{PgPinView, CellView}
 use Rattle.lp_design.specs.Keys.{Name, Path, Node}
@@ -10,25 +12,17 @@ use Rattle.lp_design.specs.Graph.{below}
 use Rattle.lp_design.specs.Settled.{Design}
 use Rattle.lp_pins.specs.Pins.{Powered, is_joined, supply_of_pin}
 use Rattle.lp_pins.specs.Supplied.{PgPinAt, pg_pins_of, pg_pins_in, is_supplied}
-use Rattle.lp_plain.specs.Carried.{Each, IsJoined, Carries}
-
-all-append : {A : Type 0} (p : A → Bool) (xs ys : List A) → list_all p xs ≡ true → list_all p ys ≡ true → list_all p (xs ++ ys) ≡ true
-all-append p [] ys a b = b
-all-append p (x ∷ xs) ys a b = both (p x) (list_all p xs) (list_all p (xs ++ ys)) a (λ c. all-append p xs ys c b)
-  where
-    both : (q r s : Bool) → (q && r) ≡ true → (r ≡ true → s ≡ true) → (q && s) ≡ true
-    both true r s e f = f e
-    both false r s e f = e
+use Rattle.lp_plain.specs.Carried.{IsJoined, Carries}
 
 all-flat : {A B : Type 0} (p : B → Bool) (f : A → List B) (xs : List A) → ((x : A) → list_all p (f x) ≡ true) → list_all p (flat_map f xs) ≡ true
 all-flat p f [] h = refl
-all-flat p f (x ∷ xs) h = all-append p (f x) (flat_map f xs) (h x) (all-flat p f xs h)
+all-flat p f (x ∷ xs) h = list_all-append p (f x) (flat_map f xs) ∙ and_from _ _ (h x) (all-flat p f xs h)
 
 module _ (d : Design) (w : Powered) (own : Node → Bool) (power gnd : Name) (carries : Carries d w own power gnd) where
   is_at : PgPinAt → Bool
   is_at a = is_joined (supply_of_pin w a.path a.instance a.pin)
 
-  pins : (p : Path) (x : InstanceView) (gs : List PgPinView) → Each (IsJoined w p x.name power gnd) gs → list_all is_at (map (λ (g : PgPinView). record { path = p; instance = x.name; pin = g.name }) gs) ≡ true
+  pins : (p : Path) (x : InstanceView) (gs : List PgPinView) → AllByRecursion (IsJoined w p x.name power gnd) gs → list_all is_at (map (λ (g : PgPinView). record { path = p; instance = x.name; pin = g.name }) gs) ≡ true
   unfolding is_at
   pins p x [] all = refl
   pins p x (g ∷ gs) all = ap (λ o. is_joined o && list_all is_at (map (λ (h : PgPinView). record { path = p; instance = x.name; pin = h.name }) gs)) all.0 ∙ pins p x gs all.1

@@ -1,6 +1,6 @@
 -- A netlist that keeps the wires and cells of a design and joins every cell to one power and one ground port (own rule).
-use Rattle.std.specs.Prelude.{◌≡◌, ℕ, Bool, true, false, List, [], ◌∷◌, Option, Some, None, IsTrue, if◌then◌else◌, bytes_eq}
-use Rattle.std.specs.List.{list_all}
+use Rattle.std.specs.Prelude.{◌≡◌, ℕ, Bool, true, false, Option, Some, None, IsTrue, if◌then◌else◌, bytes_eq}
+use Rattle.std.specs.List.{AllByRecursion, list_all}
 use Rattle.lp_model.specs.LibraryView.{PgPinView, PinView, CellView}
 use Rattle.lp_design.specs.Keys.{Name, Path, Node, Outer, Fixed, Way, Environment, From}
 use Rattle.lp_design.specs.Netlists.{cell_at}
@@ -8,10 +8,6 @@ use Rattle.lp_design.specs.Graph.{source_of}
 use Rattle.lp_design.specs.Settled.{Design, pin_named, node_at_pin}
 use Rattle.lp_pins.specs.Pins.{FromTop, SupplyNodes, Powered, is_power, supply_of_node, supply_of_pin}
 use Rattle.lp_plain.specs.Alike.{output_bits}
-
-abbrev pub Each : {A : Type 0} → (A → Type 0) → List A → Type 0
-Each P [] = Unit {0}
-Each P (x ∷ xs) = P x × Each P xs
 
 -- a node that the design lacks is reached from a supply port over such nodes, or from nothing
 pub data LeadsFromPort (w : Powered) (own : Node → Bool) : Node → Type 0 where
@@ -45,7 +41,7 @@ pub record Carries (d : Design) (w : Powered) (own : Node → Bool) (power gnd :
   pub ports_own : (n : Name) (j : Option ℕ) → own (Outer n j) ≡ true → w.around.is_supply n ≡ false
   pub outputs_own : IsTrue (list_all (λ b. own (Outer b.0 b.1)) (output_bits d.structure))
   -- every power and ground pin, and what drives and reads the top's ports, is joined to the two supply ports
-  pub cells_joined : (p : Path) (x : Name) (c : CellView) → cell_at d.structure p x ≡ Some c → Each (IsJoined w p x power gnd) c.pgs
+  pub cells_joined : (p : Path) (x : Name) (c : CellView) → cell_at d.structure p x ≡ Some c → AllByRecursion (IsJoined w p x power gnd) c.pgs
   pub drivers_joined : (n : Name) → AreJoined w (w.around.driver n) power gnd
   pub receivers_joined : (n : Name) → AreJoined w (w.around.receiver n) power gnd
   pub apart : bytes_eq power gnd ≡ false
