@@ -2,7 +2,7 @@ ghost use Rattle.std.specs.Prelude.{◌≡◌, ◌<◌, length, true, false, Non
 ghost use Rattle.std.specs.List.{list_all};
 ghost use Rattle.std.specs.Option.{option_map};
 ghost use Rattle.lp_text.specs.Texts.{has_text, text_at};
-ghost use Rattle.lp_model.specs.Agreement.{name_texts, numbers_below, option_numbers};
+ghost use Rattle.lp_model.specs.Agreement.{name_numbers, name_texts, numbers_below, option_numbers};
 ghost use Rattle.lp_model.specs.LibraryView.{expr_view, expr_numbers};
 ghost use Rattle.lp_expr.specs.declared.read.ExprFault.TheVariants as faults;
 ghost use Rattle.lp_attributes.specs.Expressions.{are_known, at_most_12, expression_over, standing};
@@ -31,6 +31,7 @@ fn standing_name(names: &Names, stand: &Table, name: &str) -> Option<NameId>
 }
 
 /// The numbers in the table of names in another, where all of them may stand.
+#[tactic(auto, using(crate::proofs::Below::below_name))]
 fn standing_names(
     alloc: Global,
     names: &Names,
@@ -41,6 +42,7 @@ fn standing_names(
     requires known { IsTrue (are_known names.now stand.now) }
     ensures none { IfOk result (λ o. MatchOption o (list_all (λ n. has_text n stand.now) (name_texts own.now variables.now) ≡ false) (λ ids. list_all (λ n. has_text n stand.now) (name_texts own.now variables.now) ≡ true)) }
     ensures same { IfOk result (λ o. IfSome o (λ ids. name_texts names.now ids.items ≡ name_texts own.now variables.now)) }
+    ensures below { IfOk result (λ o. IfSome o (λ ids. numbers_below (length names.now) (name_numbers ids.items) ≡ true)) }
 {
     let mut ids = Vec::new(alloc);
     for variable in variables {
@@ -61,7 +63,8 @@ fn over_table(
     e: &Expr,
 ) -> Result<Option<Expr>, NoMemory>
     requires known { IsTrue (are_known names.now stand.now) }
-    ensures { IfOk result (λ o. option_map (expr_view names.now) o ≡ standing stand.now (at_most_12 (expr_view own.now e.now))) }
+    ensures same { IfOk result (λ o. option_map (expr_view names.now) o ≡ standing stand.now (at_most_12 (expr_view own.now e.now))) }
+    ensures below { IfOk result (λ o. numbers_below (length names.now) (option_numbers expr_numbers o) ≡ true) }
 {
     if e.variables().len() > MOST {
         return Ok(None);
@@ -98,7 +101,8 @@ pub fn expression_over(
     text: &str,
 ) -> Result<Option<Expr>, NoMemory>
     requires known { IsTrue (are_known names.now stand.now) }
-    ensures { IfOk result (λ o. option_map (expr_view names.now) o ≡ expression_over stand.now text.now) }
+    ensures same { IfOk result (λ o. option_map (expr_view names.now) o ≡ expression_over stand.now text.now) }
+    ensures below { IfOk result (λ o. numbers_below (length names.now) (option_numbers expr_numbers o) ≡ true) }
 {
     if text.len() > LARGEST {
         return Ok(None);

@@ -1,6 +1,7 @@
 -- The names of cells and pins are those of their views, and what the files give.
-use Rattle.std.proofs.Common.{◌≡◌, ℕ, Bool, true, false, List, [], ◌∷◌, ◌++◌, Option, Some, None, Result, Ok, Err, refl, sym, ap, ◌∙◌, subst}
-use Rattle.std.specs.Prelude.{map, IsTrue, IfOk, IfErr}
+use Rattle.std.proofs.Common.{◌≡◌, ℕ, true, List, [], ◌∷◌, ◌++◌, length, Option, Some, None, Result, refl, sym, ap, ◌∙◌, subst}
+use Rattle.std.specs.Prelude.{map, IfOk, IfErr}
+use Rattle.std.specs.List.{flat_map}
 use Rattle.std.specs.Option.{option_map}
 use Rattle.std.proofs.lemmas.List.{map-append}
 use Rattle.lp_text.specs.declared.names.NameId.{NameId}
@@ -9,21 +10,21 @@ use Rattle.lp_model.specs.declared.library.Cell.{Cell}
 use Rattle.lp_model.specs.declared.library.Library.{Library}
 use Rattle.lp_model.specs.declared.library.Pin.{Pin}
 use Rattle.lp_model.specs.declared.library.PgPin.{PgPin}
-use Rattle.lp_model.specs.declared.reason.Reason.{Reason}
-use Rattle.lp_model.specs.declared.fault.library.LibraryFault.TheVariants as faults
 use Rattle.lp_model.specs.declared.fault.refusal.Refusal.{Refusal}
-use Rattle.lp_model.specs.Refusals.{library_refusal}
-use Rattle.lp_model.specs.Agreement.{name_texts}
+use Rattle.lp_model.specs.Agreement.{name_texts, numbers_below}
 use Rattle.lp_model.specs.GroupsView.{GroupView}
-use Rattle.lp_model.specs.LibraryView.{PinView, PgPinView, CellView, pin_view, pg_pin_view, cell_view, library_view}
+use Rattle.lp_model.specs.LibraryView.{PinView, PgPinView, CellView, pg_pin_numbers, pin_view, pg_pin_view, cell_view, library_view}
 use Rattle.lp_attributes.specs.Expressions.{are_known}
 use Rattle.lp_parts.specs.declared.scope.Frame.{Frame}
 use Rattle.lp_parts.specs.Views.{frame_view}
 use Rattle.lp_cells.specs.Reasons.{all_names, reason_by, reason_of, repeated}
-use Rattle.lp_cells.specs.Cells.{cells_of, cell_names, IsLibrary, IsTwice, RefusesLibrary, Duplicate, GivesCells}
+use Rattle.lp_cells.specs.Cells.{cells_of, cell_names, IsLibrary, RefusesLibrary, Duplicate, GivesCells}
 
 pub known_as : (table set names : List (List ℕ)) → set ≡ names → are_known table names ≡ true → are_known table set ≡ true
 known_as table set names is known = subst (λ (s : List (List ℕ)). are_known table s ≡ true) (sym is) known
+
+pub below_as : (table : List (List ℕ)) (a b : List PgPin) → a ≡ b → numbers_below (length table) (flat_map pg_pin_numbers b) ≡ true → numbers_below (length table) (flat_map pg_pin_numbers a) ≡ true
+below_as table a b is below = subst (λ (s : List PgPin). numbers_below (length table) (flat_map pg_pin_numbers s) ≡ true) (sym is) below
 
 pub pins_named : (T : List (List ℕ)) (pins : List Pin) → name_texts T (map (λ (p : Pin). p.name) pins) ≡ map (λ (p : PinView). p.name) (map (pin_view T) pins)
 pins_named T [] = refl

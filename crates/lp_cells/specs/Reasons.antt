@@ -1,7 +1,7 @@
 -- Why a cell cannot be used (own rule): tests of its groups and of the cell that they make.
 use Rattle.std.specs.Prelude.{ℕ, Bool, true, false, not, ◌&&◌, ◌||◌, ◌==◌, nat_lt, nat_le, nat_eq, List, [], ◌∷◌, ◌++◌, length, map, Option, Some, None, is_some, is_none, if◌then◌else◌, codes, slice_get}
 use Rattle.std.specs.List.{list_any, list_all, starts_with}
-use Rattle.lp_text.specs.Texts.{same_text, has_text, place_of}
+use Rattle.lp_text.specs.Texts.{has_text, place_of}
 use Rattle.lp_model.specs.declared.reason.Reason.{Reason}
 use Rattle.lp_model.specs.declared.reason.Reason.TheVariants as reasons
 use Rattle.lp_model.specs.declared.library.PgKind.{PgKind}

@@ -1,7 +1,8 @@
-ghost use Rattle.std.specs.Prelude.{◌≡◌, [], IfOk, IsTrue, map};
+ghost use Rattle.std.specs.Prelude.{◌≡◌, [], length, true, IfOk, IsTrue, map};
 ghost use Rattle.lp_text.specs.Texts.{has_text};
 ghost use Rattle.lp_model.specs.GroupsView.{group_view};
-ghost use Rattle.lp_model.specs.LibraryView.{cell_view, pg_pin_view};
+ghost use Rattle.lp_model.specs.Agreement.{numbers_below};
+ghost use Rattle.lp_model.specs.LibraryView.{cell_numbers, cell_view, pg_pin_view};
 ghost use Rattle.lp_cells.specs.Cells.{cell_by, cell_of, scope_by, scope_of};
 ghost use Rattle.lp_parts.specs.Views.{Knows, frame_view};
 
@@ -22,6 +23,7 @@ use std::alloc::Global;
 fn frame_by(names: &Names, signals: Table, own: Table, pgs: Items<PgPin>, switch: bool) -> Frame
     ensures signals { result.signals ≡ signals }
     ensures own { result.names ≡ own }
+    ensures pgs { result.pgs ≡ pgs }
     ensures same { frame_view names.now result ≡ scope_by signals own (map (pg_pin_view names.now) pgs) switch }
 {
     let _names = names;
@@ -68,7 +70,8 @@ fn cell_by(
 ) -> Result<Cell, NoMemory>
     requires empty { IsTrue (has_text [] names.now) }
     requires knows { Knows names.now frame }
-    ensures { IfOk result (λ c. cell_view names.now c ≡ cell_by place (frame_view names.now frame) (group_view names.now head.now) (map (group_view names.now) groups.now)) }
+    ensures same { IfOk result (λ c. cell_view names.now c ≡ cell_by place (frame_view names.now frame) (group_view names.now head.now) (map (group_view names.now) groups.now)) }
+    ensures below { IfOk result (λ c. numbers_below (length names.now) (cell_numbers c) ≡ true) }
 {
     let name = arg_of(names, head, 0);
     let area = area(&value(alloc, names, head, "area")?);
@@ -97,7 +100,8 @@ pub(crate) fn cell_of(
     groups: &[Group],
 ) -> Result<Cell, NoMemory>
     requires empty { IsTrue (has_text [] names.now) }
-    ensures { IfOk result (λ c. cell_view names.now c ≡ cell_of place (group_view names.now head.now) (map (group_view names.now) groups.now)) }
+    ensures same { IfOk result (λ c. cell_view names.now c ≡ cell_of place (group_view names.now head.now) (map (group_view names.now) groups.now)) }
+    ensures below { IfOk result (λ c. numbers_below (length names.now) (cell_numbers c) ≡ true) }
 {
     let frame = frame_of(alloc, names, place, head, groups)?;
     cell_by(alloc, names, place, frame, head, groups)

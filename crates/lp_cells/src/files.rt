@@ -1,8 +1,10 @@
-ghost use Rattle.std.specs.Prelude.{◌≡◌, ◌+◌, ◌<◌, ◌≤◌, [], ◌++◌, IfOk, IfErr, IsTrue, OnErr, OnOk, length, map};
+ghost use Rattle.std.specs.Prelude.{◌≡◌, ◌+◌, ◌<◌, ◌≤◌, [], ◌++◌, true, IfOk, IfErr, IsTrue, OnErr, OnOk, length, map};
+ghost use Rattle.std.specs.List.{flat_map};
 ghost use Rattle.std.specs.Option.{option_map};
 ghost use Rattle.lp_text.specs.Texts.{Grown, has_text, text_at, with_text};
 ghost use Rattle.lp_model.specs.GroupsView.{group_view, groups_view};
-ghost use Rattle.lp_model.specs.LibraryView.{cell_view, library_view};
+ghost use Rattle.lp_model.specs.Agreement.{numbers_below};
+ghost use Rattle.lp_model.specs.LibraryView.{cell_numbers, cell_view, library_numbers, library_view};
 ghost use Rattle.lp_cells.specs.Cells.{GivesCells, IsLibrary, RefusesLibrary, cell_at, cell_names, cells_in, cells_of};
 ghost use Rattle.lp_cells.specs.Reasons.{repeated};
 
@@ -15,7 +17,7 @@ use sqlite_items::Items;
 use std::alloc::Global;
 
 /// Adds the cell of a group, if it is one.
-#[tactic(auto, unfolding(crate::specs::Cells::cell_at))]
+#[tactic(auto, using(lp_attributes::proofs::Below::below_more), unfolding(crate::specs::Cells::cell_at))]
 fn push_cell(
     alloc: Global,
     names: &Names,
@@ -26,7 +28,9 @@ fn push_cell(
     out: &mut Items<Cell>,
 ) -> Result<(), NoMemory>
     requires empty { IsTrue (has_text [] names.now) }
-    ensures { OnOk result (map (cell_view names.now) out.new ≡ map (cell_view names.now) out.old ++ cell_at (map (group_view names.now) all.now) place (group_view names.now head.now) (map (group_view names.now) more.now)) }
+    requires below { numbers_below (length names.now) (flat_map cell_numbers out.old) ≡ true }
+    ensures below { OnOk result (numbers_below (length names.now) (flat_map cell_numbers out.new) ≡ true) }
+    ensures same { OnOk result (map (cell_view names.now) out.new ≡ map (cell_view names.now) out.old ++ cell_at (map (group_view names.now) all.now) place (group_view names.now head.now) (map (group_view names.now) more.now)) }
 {
     if is_cell(names, all, head) {
         let groups = inside_of(names, place, more);
@@ -43,7 +47,9 @@ fn push_cells(
     out: &mut Items<Cell>,
 ) -> Result<(), NoMemory>
     requires empty { IsTrue (has_text [] names.now) }
-    ensures { OnOk result (map (cell_view names.now) out.new ≡ map (cell_view names.now) out.old ++ cells_in (map (group_view names.now) all.now)) }
+    requires below { numbers_below (length names.now) (flat_map cell_numbers out.old) ≡ true }
+    ensures below { OnOk result (numbers_below (length names.now) (flat_map cell_numbers out.new) ≡ true) }
+    ensures same { OnOk result (map (cell_view names.now) out.new ≡ map (cell_view names.now) out.old ++ cells_in (map (group_view names.now) all.now)) }
 {
     for (place, head) in all.iter().enumerate() {
         push_cell(alloc, names, all, place, head, &all[place + 1..], out)?;
@@ -54,7 +60,8 @@ fn push_cells(
 /// The cells of files, in their order.
 fn cells_of(alloc: Global, names: &Names, files: &[Groups]) -> Result<Items<Cell>, NoMemory>
     requires empty { IsTrue (has_text [] names.now) }
-    ensures { IfOk result (λ out. map (cell_view names.now) out ≡ cells_of (map (groups_view names.now) files.now)) }
+    ensures same { IfOk result (λ out. map (cell_view names.now) out ≡ cells_of (map (groups_view names.now) files.now)) }
+    ensures below { IfOk result (λ out. numbers_below (length names.now) (flat_map cell_numbers out) ≡ true) }
 {
     let mut out = Items::new(alloc);
     for file in files {
@@ -101,6 +108,7 @@ fn checked_cells(
 ) -> Result<(Items<Cell>, Option<NameId>), NoMemory>
     requires empty { IsTrue (has_text [] names.now) }
     ensures cells { IfOk result (λ r. map (cell_view names.now) r.0 ≡ cells_of (map (groups_view names.now) files.now)) }
+    ensures below { IfOk result (λ r. numbers_below (length names.now) (flat_map cell_numbers r.0) ≡ true) }
     ensures twice { IfOk result (λ r. option_map (λ id. text_at names.now id.0) r.1 ≡ repeated [] (cell_names (map (cell_view names.now) r.0))) }
 {
     let cells = cells_of(alloc, names, files)?;
@@ -112,6 +120,7 @@ fn checked_cells(
 fn library_of(alloc: Global, names: &Names, files: &[Groups]) -> Result<Library, Refusal>
     requires empty { IsTrue (has_text [] names.now) }
     ensures ok { IfOk result (λ l. IsLibrary (map (groups_view names.now) files.now) (library_view names.now l)) }
+    ensures numbers { IfOk result (λ l. numbers_below (length names.now) (library_numbers l) ≡ true) }
     ensures err { IfErr result (RefusesLibrary names.now (map (groups_view names.now) files.now)) }
 {
     match checked_cells(alloc, names, files) {
@@ -144,6 +153,7 @@ fn intern_empty(names: &mut Names) -> Result<(), NoMemory>
 pub fn library(alloc: Global, names: &mut Names, files: &[Groups]) -> Result<Library, Refusal>
     requires { length names.old ≤ 3000000000 }
     ensures ok { IfOk result (λ l. IsLibrary (map (groups_view names.new) files.now) (library_view names.new l)) }
+    ensures numbers { IfOk result (λ l. numbers_below (length names.new) (library_numbers l) ≡ true) }
     ensures err { IfErr result (RefusesLibrary names.new (map (groups_view names.new) files.now)) }
     ensures grown { Grown names.old names.new }
     ensures few { length names.new ≤ length names.old + 1 }

@@ -10,4 +10,7 @@ mod reading;
 mod structure;
 
 pub use files::library;
-pub use laws::{one_library, one_library_answer};
+pub use laws::{one_library, one_library_answer, usable_cells_are_sound};
+
+#[cfg(test)]
+mod tests;

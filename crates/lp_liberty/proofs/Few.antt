@@ -26,7 +26,7 @@ ended_size : (ns : List ℕ) (groups : List Group) (a : Attr) → length (with_a
 ended_size [] groups a = refl
 ended_size (n ∷ ns) groups a = attr_size groups n a
 
-either : {A : Type 0} (P : A → Type 0) (c : Bool) (x y : Option A) → IfSome x P → IfSome y P → IfSome (if c then x else y) P
+pub either : {A : Type 0} (P : A → Type 0) (c : Bool) (x y : Option A) → IfSome x P → IfSome y P → IfSome (if c then x else y) P
 either P true x y t f = t
 either P false x y t f = f
 

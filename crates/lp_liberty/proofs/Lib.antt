@@ -1,6 +1,7 @@
 mod Always
 mod Answered
 mod Attrs
+mod Below
 mod Few
 mod Found
 mod Fronts

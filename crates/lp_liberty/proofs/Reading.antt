@@ -57,7 +57,7 @@ within_more k xs x rest e = let size : length xs - k ≡ suc (length rest) = sym
 
 -- ---- names
 
-placed_new : (names : List (List ℕ)) (w : List ℕ) → (j : ℕ) × (place_of w (with_text names w) ≡ Some j)
+pub placed_new : (names : List (List ℕ)) (w : List ℕ) → (j : ℕ) × (place_of w (with_text names w) ≡ Some j)
 placed_new names w = by (has_text w names) refl
   where
     found : (o : Option ℕ) → place_of w names ≡ o → is_some o ≡ true → (j : ℕ) × (place_of w names ≡ Some j)

@@ -11,7 +11,7 @@ mod reader;
 mod run;
 mod runs;
 
-pub use laws::{one_list_of_groups, one_list_of_tokens};
+pub use laws::{one_answer, one_list_of_groups, one_list_of_tokens};
 pub use read::read_groups;
 
 #[cfg(test)]

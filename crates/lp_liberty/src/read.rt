@@ -1,7 +1,9 @@
-ghost use Rattle.std.specs.Prelude.{◌≡◌, ◌+◌, ◌<◌, ◌≤◌, None, length, map, IfOk, IfErr};
+ghost use Rattle.std.specs.Prelude.{◌≡◌, ◌+◌, ◌<◌, ◌≤◌, None, true, length, map, IfOk, IfErr};
+ghost use Rattle.std.specs.List.{flat_map};
 ghost use Rattle.lp_text.specs.Places.{place_in};
 ghost use Rattle.lp_text.specs.Texts.{Grown};
-ghost use Rattle.lp_model.specs.GroupsView.{group_view};
+ghost use Rattle.lp_model.specs.Agreement.{numbers_below};
+ghost use Rattle.lp_model.specs.GroupsView.{group_numbers, group_view, groups_numbers};
 ghost use Rattle.lp_model.specs.Refusals.{library_refusal};
 ghost use Rattle.lp_liberty.specs.Denotes.{Denotes, ReadsGroups, RefusedAs};
 ghost use Rattle.lp_liberty.specs.Stops.{StopsAt, refusal_by};
@@ -20,6 +22,7 @@ fn groups_of(alloc: Global, names: &mut Names, text: &[u8]) -> Result<Items<Grou
     requires small { length text.now ≤ 67108864 }
     requires room { length names.old ≤ 3000000000 }
     ensures ok { IfOk result (λ groups. Denotes text.now (map (group_view names.new) groups)) }
+    ensures numbers { IfOk result (λ groups. numbers_below (length names.new) (flat_map group_numbers groups) ≡ true) }
     ensures err { IfErr result (StopsAt text.now) }
     ensures grown { Grown names.old names.new }
     ensures few { length names.new ≤ length names.old + length text.now }
@@ -46,7 +49,8 @@ fn refusal_of(file: u32, text: &[u8], stop: Stop) -> Refusal
     }
 }
 
-/// Reads a Liberty text as its groups; the names of words, arguments and items go into the table.
+/// Reads a Liberty text as its groups; the names of words, arguments and items go into the table, which has each number
+/// in the groups.
 ///
 /// `file` is the number of the file, 10 for the first library. The table has at most 3,000,000,000 names.
 ///
@@ -64,6 +68,7 @@ pub fn read_groups(
 ) -> Result<Groups, Refusal>
     requires { length names.old ≤ 3000000000 }
     ensures ok { IfOk result (ReadsGroups file bytes.now names.new) }
+    ensures numbers { IfOk result (λ g. numbers_below (length names.new) (groups_numbers g) ≡ true) }
     ensures err { IfErr result (RefusedAs file bytes.now) }
     ensures grown { Grown names.old names.new }
     ensures few { length names.new ≤ length names.old + length bytes.now }

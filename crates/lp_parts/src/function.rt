@@ -1,8 +1,9 @@
-ghost use Rattle.std.specs.Prelude.{◌≡◌, ◌≤◌, [], ◌∷◌, ◌++◌, false, Some, IfOk, IsTrue, OnOk, length, map, take, vec_len};
-ghost use Rattle.std.specs.List.{filter};
+ghost use Rattle.std.specs.Prelude.{◌≡◌, ◌≤◌, [], ◌∷◌, ◌++◌, false, true, Some, IfOk, IsTrue, OnOk, length, map, take, vec_len};
+ghost use Rattle.std.specs.List.{filter, flat_map};
 ghost use Rattle.std.specs.Option.{option_copied, option_map};
 ghost use Rattle.lp_expr.specs.declared.step.Step.TheVariants as steps;
-ghost use Rattle.lp_model.specs.LibraryView.{expr_view, pg_pin_view};
+ghost use Rattle.lp_model.specs.Agreement.{name_numbers, numbers_below, option_numbers};
+ghost use Rattle.lp_model.specs.LibraryView.{expr_numbers, expr_view, pg_pin_numbers, pg_pin_view};
 ghost use Rattle.lp_attributes.specs.Expressions.{are_known};
 ghost use Rattle.lp_parts.specs.Functions.{alone, default_down, down_by, down_of, down_steps, is_plain, joint, literal, over_if_any, passed, small};
 ghost use Rattle.lp_parts.specs.Pins.{function_if_any};
@@ -30,7 +31,8 @@ fn nothing(alloc: Global) -> Result<Expr, NoMemory>
 /// The expression of a text, the constant 0 where it does not read.
 fn over_text(alloc: Global, names: &Names, stand: &Table, text: &str) -> Result<Expr, NoMemory>
     requires known { IsTrue (are_known names.now stand.now) }
-    ensures { IfOk result (λ e. expr_view names.now e ≡ over_if_any stand.now (Some text.now)) }
+    ensures same { IfOk result (λ e. expr_view names.now e ≡ over_if_any stand.now (Some text.now)) }
+    ensures below { IfOk result (λ e. numbers_below (length names.now) (expr_numbers e) ≡ true) }
 {
     match expression_over(alloc, names, stand, text)? {
         None => nothing(alloc),
@@ -46,7 +48,8 @@ pub fn over_if_any(
     value: &Option<Word>,
 ) -> Result<Expr, NoMemory>
     requires known { IsTrue (are_known names.now stand.now) }
-    ensures { IfOk result (λ e. expr_view names.now e ≡ over_if_any stand.now value.now) }
+    ensures same { IfOk result (λ e. expr_view names.now e ≡ over_if_any stand.now value.now) }
+    ensures below { IfOk result (λ e. numbers_below (length names.now) (expr_numbers e) ≡ true) }
 {
     match value {
         None => nothing(alloc),
@@ -62,7 +65,8 @@ pub fn function_if_any(
     value: &Option<Word>,
 ) -> Result<Option<Expr>, NoMemory>
     requires known { IsTrue (are_known names.now stand.now) }
-    ensures { IfOk result (λ o. option_map (expr_view names.now) o ≡ function_if_any stand.now value.now) }
+    ensures same { IfOk result (λ o. option_map (expr_view names.now) o ≡ function_if_any stand.now value.now) }
+    ensures below { IfOk result (λ o. numbers_below (length names.now) (option_numbers expr_numbers o) ≡ true) }
 {
     match value {
         None => Ok(None),
@@ -137,7 +141,9 @@ fn first_eight(pgs: &[PgPin]) -> &[PgPin]
 /// Some non-bias power pin is down or some non-bias ground pin is up.
 fn down_by(alloc: Global, names: &Names, pgs: &[PgPin]) -> Result<Expr, NoMemory>
     requires few { length pgs.now ≤ 8 }
-    ensures { IfOk result (λ e. expr_view names.now e ≡ down_by (map (pg_pin_view names.now) pgs.now)) }
+    requires below { IsTrue (numbers_below (length names.now) (flat_map pg_pin_numbers pgs.now)) }
+    ensures same { IfOk result (λ e. expr_view names.now e ≡ down_by (map (pg_pin_view names.now) pgs.now)) }
+    ensures below { IfOk result (λ e. numbers_below (length names.now) (expr_numbers e) ≡ true) }
 {
     let _names = names;
     let ids = plain_names(alloc, pgs)?;
@@ -148,7 +154,9 @@ fn down_by(alloc: Global, names: &Names, pgs: &[PgPin]) -> Result<Expr, NoMemory
 
 /// The default function, among the first 8 pins.
 fn default_down(alloc: Global, names: &Names, pgs: &[PgPin]) -> Result<Expr, NoMemory>
-    ensures { IfOk result (λ e. expr_view names.now e ≡ default_down (map (pg_pin_view names.now) pgs.now)) }
+    requires below { IsTrue (numbers_below (length names.now) (flat_map pg_pin_numbers pgs.now)) }
+    ensures same { IfOk result (λ e. expr_view names.now e ≡ default_down (map (pg_pin_view names.now) pgs.now)) }
+    ensures below { IfOk result (λ e. numbers_below (length names.now) (expr_numbers e) ≡ true) }
 {
     down_by(alloc, names, first_eight(pgs))
 }
@@ -162,7 +170,9 @@ pub fn down_of(
     value: &Option<Word>,
 ) -> Result<Expr, NoMemory>
     requires known { IsTrue (are_known names.now stand.now) }
-    ensures { IfOk result (λ e. expr_view names.now e ≡ down_of (map (pg_pin_view names.now) pgs.now) stand.now value.now) }
+    requires below { IsTrue (numbers_below (length names.now) (flat_map pg_pin_numbers pgs.now)) }
+    ensures same { IfOk result (λ e. expr_view names.now e ≡ down_of (map (pg_pin_view names.now) pgs.now) stand.now value.now) }
+    ensures below { IfOk result (λ e. numbers_below (length names.now) (expr_numbers e) ≡ true) }
 {
     match value {
         None => default_down(alloc, names, pgs),

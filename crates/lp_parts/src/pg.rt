@@ -1,8 +1,10 @@
-ghost use Rattle.std.specs.Prelude.{◌≡◌, [], ◌++◌, IfOk, IsTrue, OnOk, map};
+ghost use Rattle.std.specs.Prelude.{◌≡◌, [], ◌++◌, length, true, IfOk, IsTrue, OnOk, map};
+ghost use Rattle.std.specs.List.{flat_map};
 ghost use Rattle.std.specs.Option.{option_map};
 ghost use Rattle.lp_text.specs.Texts.{has_text};
 ghost use Rattle.lp_model.specs.GroupsView.{group_view};
-ghost use Rattle.lp_model.specs.LibraryView.{pg_pin_view, switched_view};
+ghost use Rattle.lp_model.specs.Agreement.{numbers_below, option_numbers};
+ghost use Rattle.lp_model.specs.LibraryView.{pg_pin_numbers, pg_pin_view, switched_numbers, switched_view};
 ghost use Rattle.lp_attributes.specs.Expressions.{are_known};
 ghost use Rattle.lp_parts.specs.Pins.{is_internal_power, kind_of, pg_of, pgs_at, pgs_of, switched_by, switched_of};
 
@@ -43,7 +45,8 @@ fn switched_by(
 ) -> Result<Option<Switched>, NoMemory>
     requires signals { IsTrue (are_known names.now signals.now) }
     requires pgs { IsTrue (are_known names.now pgs.now) }
-    ensures { IfOk result (λ s. option_map (switched_view names.now) s ≡ switched_by signals.now pgs.now off passes) }
+    ensures same { IfOk result (λ s. option_map (switched_view names.now) s ≡ switched_by signals.now pgs.now off passes) }
+    ensures below { IfOk result (λ s. numbers_below (length names.now) (option_numbers switched_numbers s) ≡ true) }
 {
     match (off, passes) {
         (Some(off), Some(passes)) => {
@@ -65,7 +68,8 @@ fn switched_of(
 ) -> Result<Option<Switched>, NoMemory>
     requires signals { IsTrue (are_known names.now signals.now) }
     requires pgs { IsTrue (are_known names.now pgs.now) }
-    ensures { IfOk result (λ s. option_map (switched_view names.now) s ≡ switched_of signals.now pgs.now (group_view names.now group.now)) }
+    ensures same { IfOk result (λ s. option_map (switched_view names.now) s ≡ switched_of signals.now pgs.now (group_view names.now group.now)) }
+    ensures below { IfOk result (λ s. numbers_below (length names.now) (option_numbers switched_numbers s) ≡ true) }
 {
     if !is_internal_power(kind_of(alloc, names, group)?) {
         return Ok(None);
@@ -76,6 +80,7 @@ fn switched_of(
 }
 
 /// A power or ground pin.
+#[tactic(auto, using(crate::proofs::Below::below_pg))]
 fn pg_of(
     alloc: Global,
     names: &Names,
@@ -86,7 +91,8 @@ fn pg_of(
     requires empty { IsTrue (has_text [] names.now) }
     requires signals { IsTrue (are_known names.now signals.now) }
     requires pgs { IsTrue (are_known names.now pgs.now) }
-    ensures { IfOk result (λ p. pg_pin_view names.now p ≡ pg_of signals.now pgs.now (group_view names.now group.now)) }
+    ensures same { IfOk result (λ p. pg_pin_view names.now p ≡ pg_of signals.now pgs.now (group_view names.now group.now)) }
+    ensures below { IfOk result (λ p. numbers_below (length names.now) (pg_pin_numbers p) ≡ true) }
 {
     let name = arg_of(names, group, 0);
     let kind = kind_of(alloc, names, group)?.unwrap_or(PgKind::PrimaryPower);
@@ -99,6 +105,7 @@ fn pg_of(
 }
 
 /// Adds the pin of a group.
+#[tactic(auto, using(lp_attributes::proofs::Below::below_more))]
 fn push_pg(
     alloc: Global,
     names: &Names,
@@ -111,7 +118,9 @@ fn push_pg(
     requires empty { IsTrue (has_text [] names.now) }
     requires signals { IsTrue (are_known names.now signals.now) }
     requires pgs { IsTrue (are_known names.now pgs.now) }
-    ensures { OnOk result (map (pg_pin_view names.now) out.new ≡ map (pg_pin_view names.now) out.old ++ pgs_at place signals.now pgs.now (group_view names.now group.now)) }
+    requires below { numbers_below (length names.now) (flat_map pg_pin_numbers out.old) ≡ true }
+    ensures same { OnOk result (map (pg_pin_view names.now) out.new ≡ map (pg_pin_view names.now) out.old ++ pgs_at place signals.now pgs.now (group_view names.now group.now)) }
+    ensures below { OnOk result (numbers_below (length names.now) (flat_map pg_pin_numbers out.new) ≡ true) }
 {
     if is_part(names, place, group, "pg_pin") {
         out.push(pg_of(alloc, names, signals, pgs, group)?)?;
@@ -131,7 +140,8 @@ pub fn pgs_of(
     requires empty { IsTrue (has_text [] names.now) }
     requires signals { IsTrue (are_known names.now signals.now) }
     requires pgs { IsTrue (are_known names.now pgs.now) }
-    ensures { IfOk result (λ out. map (pg_pin_view names.now) out ≡ pgs_of place signals.now pgs.now (map (group_view names.now) groups.now)) }
+    ensures same { IfOk result (λ out. map (pg_pin_view names.now) out ≡ pgs_of place signals.now pgs.now (map (group_view names.now) groups.now)) }
+    ensures below { IfOk result (λ out. numbers_below (length names.now) (flat_map pg_pin_numbers out) ≡ true) }
 {
     let mut out = Items::new(alloc);
     for group in groups {

@@ -1,9 +1,10 @@
-ghost use Rattle.std.specs.Prelude.{◌≡◌, [], ◌++◌, Some, IfOk, IsTrue, OnOk, map};
+ghost use Rattle.std.specs.Prelude.{◌≡◌, [], ◌++◌, length, true, Some, IfOk, IsTrue, OnOk, map};
+ghost use Rattle.std.specs.List.{flat_map};
 ghost use Rattle.std.specs.Option.{option_map};
 ghost use Rattle.lp_text.specs.Texts.{has_text, text_at};
-ghost use Rattle.lp_model.specs.Agreement.{name_texts};
+ghost use Rattle.lp_model.specs.Agreement.{name_texts, numbers_below, option_numbers};
 ghost use Rattle.lp_model.specs.GroupsView.{group_view};
-ghost use Rattle.lp_model.specs.LibraryView.{expr_view, pin_view};
+ghost use Rattle.lp_model.specs.LibraryView.{expr_numbers, expr_view, pin_numbers, pin_view};
 ghost use Rattle.lp_parts.specs.Functions.{small};
 ghost use Rattle.lp_parts.specs.Pins.{action_of, class_of, direction_of, function_of, ground_of, pin_of, pins_at, pins_of, power_down_of, power_of, related_by, retention_use, shift_use, use_of};
 ghost use Rattle.lp_parts.specs.Views.{Knows, frame_view};
@@ -138,7 +139,8 @@ fn function_of(
     group: &Group,
 ) -> Result<Option<Expr>, NoMemory>
     requires { Knows names.now frame.now }
-    ensures { IfOk result (λ o. option_map (expr_view names.now) o ≡ function_of (frame_view names.now frame.now) output (group_view names.now group.now)) }
+    ensures same { IfOk result (λ o. option_map (expr_view names.now) o ≡ function_of (frame_view names.now frame.now) output (group_view names.now group.now)) }
+    ensures below { IfOk result (λ o. numbers_below (length names.now) (option_numbers expr_numbers o) ≡ true) }
 {
     if !output {
         return Ok(None);
@@ -156,7 +158,8 @@ fn power_down_of(
     group: &Group,
 ) -> Result<Option<Expr>, NoMemory>
     requires { Knows names.now frame.now }
-    ensures { IfOk result (λ o. option_map (expr_view names.now) o ≡ power_down_of (frame_view names.now frame.now) output (group_view names.now group.now)) }
+    ensures same { IfOk result (λ o. option_map (expr_view names.now) o ≡ power_down_of (frame_view names.now frame.now) output (group_view names.now group.now)) }
+    ensures below { IfOk result (λ o. numbers_below (length names.now) (option_numbers expr_numbers o) ≡ true) }
 {
     if !output {
         return Ok(None);
@@ -178,6 +181,7 @@ fn direction_of(output: bool) -> Direction
 }
 
 /// A pin of a group.
+#[tactic(auto, using(crate::proofs::Below::below_pin))]
 fn pin_of(
     alloc: Global,
     names: &Names,
@@ -187,7 +191,8 @@ fn pin_of(
 ) -> Result<Pin, NoMemory>
     requires empty { IsTrue (has_text [] names.now) }
     requires knows { Knows names.now frame.now }
-    ensures { IfOk result (λ p. pin_view names.now p ≡ pin_of (frame_view names.now frame.now) (group_view names.now group.now) (text_at names.now name.0)) }
+    ensures same { IfOk result (λ p. pin_view names.now p ≡ pin_of (frame_view names.now frame.now) (group_view names.now group.now) (text_at names.now name.0)) }
+    ensures below { IfOk result (λ p. numbers_below (length names.now) (pin_numbers p) ≡ true) }
 {
     let output = is_output(alloc, names, group)?;
     Ok(Pin {
@@ -202,6 +207,7 @@ fn pin_of(
 }
 
 /// Adds the pins of a group, one for each argument.
+#[tactic(auto, using(lp_attributes::proofs::Below::below_more))]
 fn push_args(
     alloc: Global,
     names: &Names,
@@ -211,7 +217,9 @@ fn push_args(
 ) -> Result<(), NoMemory>
     requires empty { IsTrue (has_text [] names.now) }
     requires knows { Knows names.now frame.now }
-    ensures { OnOk result (map (pin_view names.now) out.new ≡ map (pin_view names.now) out.old ++ map (pin_of (frame_view names.now frame.now) (group_view names.now group.now)) (name_texts names.now group.now.args)) }
+    requires below { numbers_below (length names.now) (flat_map pin_numbers out.old) ≡ true }
+    ensures below { OnOk result (numbers_below (length names.now) (flat_map pin_numbers out.new) ≡ true) }
+    ensures same { OnOk result (map (pin_view names.now) out.new ≡ map (pin_view names.now) out.old ++ map (pin_of (frame_view names.now frame.now) (group_view names.now group.now)) (name_texts names.now group.now.args)) }
 {
     for name in group.args.as_slice() {
         out.push(pin_of(alloc, names, frame, group, *name)?)?;
@@ -231,7 +239,9 @@ fn push_pins(
 ) -> Result<(), NoMemory>
     requires empty { IsTrue (has_text [] names.now) }
     requires knows { Knows names.now frame.now }
-    ensures { OnOk result (map (pin_view names.now) out.new ≡ map (pin_view names.now) out.old ++ pins_at place (frame_view names.now frame.now) (group_view names.now group.now)) }
+    requires below { numbers_below (length names.now) (flat_map pin_numbers out.old) ≡ true }
+    ensures below { OnOk result (numbers_below (length names.now) (flat_map pin_numbers out.new) ≡ true) }
+    ensures same { OnOk result (map (pin_view names.now) out.new ≡ map (pin_view names.now) out.old ++ pins_at place (frame_view names.now frame.now) (group_view names.now group.now)) }
 {
     if is_part(names, place, group, "pin") {
         push_args(alloc, names, frame, out, group)?;
@@ -249,7 +259,8 @@ pub fn pins_of(
 ) -> Result<Items<Pin>, NoMemory>
     requires empty { IsTrue (has_text [] names.now) }
     requires knows { Knows names.now frame.now }
-    ensures { IfOk result (λ out. map (pin_view names.now) out ≡ pins_of place (frame_view names.now frame.now) (map (group_view names.now) groups.now)) }
+    ensures same { IfOk result (λ out. map (pin_view names.now) out ≡ pins_of place (frame_view names.now frame.now) (map (group_view names.now) groups.now)) }
+    ensures below { IfOk result (λ out. numbers_below (length names.now) (flat_map pin_numbers out) ≡ true) }
 {
     let mut out = Items::new(alloc);
     for group in groups {

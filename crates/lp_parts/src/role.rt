@@ -1,8 +1,9 @@
-ghost use Rattle.std.specs.Prelude.{◌≡◌, IfOk, IsTrue, map};
+ghost use Rattle.std.specs.Prelude.{◌≡◌, length, true, IfOk, IsTrue, map};
 ghost use Rattle.std.specs.List.{find};
 ghost use Rattle.std.specs.Option.{option_copied, option_map};
 ghost use Rattle.lp_model.specs.GroupsView.{group_view};
-ghost use Rattle.lp_model.specs.LibraryView.{expr_view, roles_view};
+ghost use Rattle.lp_model.specs.Agreement.{numbers_below, option_numbers};
+ghost use Rattle.lp_model.specs.LibraryView.{expr_numbers, expr_view, roles_numbers, roles_view};
 ghost use Rattle.lp_attributes.specs.Attributes.{values_of};
 ghost use Rattle.lp_attributes.specs.Expressions.{are_known};
 ghost use Rattle.lp_parts.specs.Roles.{copy_of, is_condition, is_retention, is_switch, range_if_any, retention_of, roles_of, shifter_of};
@@ -99,7 +100,8 @@ fn retention_of(
     groups: &[Group],
 ) -> Result<Option<Expr>, NoMemory>
     requires known { IsTrue (are_known names.now pgs.now) }
-    ensures { IfOk result (λ o. option_map (expr_view names.now) o ≡ retention_of place pgs.now (group_view names.now head.now) (map (group_view names.now) groups.now)) }
+    ensures same { IfOk result (λ o. option_map (expr_view names.now) o ≡ retention_of place pgs.now (group_view names.now head.now) (map (group_view names.now) groups.now)) }
+    ensures below { IfOk result (λ o. numbers_below (length names.now) (option_numbers expr_numbers o) ≡ true) }
 {
     if !is_retention(names, head) {
         return Ok(None);
@@ -121,7 +123,8 @@ pub fn roles_of(
     groups: &[Group],
 ) -> Result<Roles, NoMemory>
     requires known { IsTrue (are_known names.now pgs.now) }
-    ensures { IfOk result (λ r. roles_view names.now r ≡ roles_of place pgs.now (group_view names.now head.now) (map (group_view names.now) groups.now)) }
+    ensures same { IfOk result (λ r. roles_view names.now r ≡ roles_of place pgs.now (group_view names.now head.now) (map (group_view names.now) groups.now)) }
+    ensures below { IfOk result (λ r. numbers_below (length names.now) (roles_numbers r) ≡ true) }
 {
     Ok(Roles {
         retention: retention_of(alloc, names, place, pgs, head, groups)?,

@@ -1,9 +1,10 @@
-ghost use Rattle.std.specs.Prelude.{◌≡◌, [], IfOk, IsTrue, map};
+ghost use Rattle.std.specs.Prelude.{◌≡◌, [], length, true, IfOk, IsTrue, map};
 ghost use Rattle.std.specs.List.{find};
 ghost use Rattle.std.specs.Option.{option_copied, option_map};
 ghost use Rattle.lp_text.specs.Texts.{has_text};
 ghost use Rattle.lp_model.specs.GroupsView.{group_view};
-ghost use Rattle.lp_model.specs.LibraryView.{expr_view, state_view};
+ghost use Rattle.lp_model.specs.Agreement.{numbers_below, option_numbers};
+ghost use Rattle.lp_model.specs.LibraryView.{expr_numbers, expr_view, state_numbers, state_view};
 ghost use Rattle.lp_attributes.specs.Attributes.{value_of};
 ghost use Rattle.lp_parts.specs.Functions.{over_if_any};
 ghost use Rattle.lp_parts.specs.Names.{is_state};
@@ -141,13 +142,15 @@ fn part_of(
     word: &str,
 ) -> Result<Expr, NoMemory>
     requires { Knows names.now frame.now }
-    ensures { IfOk result (λ e. expr_view names.now e ≡ over_if_any frame.now.signals (value_of word.now (group_view names.now group.now))) }
+    ensures same { IfOk result (λ e. expr_view names.now e ≡ over_if_any frame.now.signals (value_of word.now (group_view names.now group.now))) }
+    ensures below { IfOk result (λ e. numbers_below (length names.now) (expr_numbers e) ≡ true) }
 {
     let text = value(alloc, names, group, word)?;
     over_if_any(alloc, names, &frame.signals, &text)
 }
 
 /// The state of a state group.
+#[tactic(auto, using(crate::proofs::Below::below_state))]
 fn state_by(
     alloc: Global,
     names: &Names,
@@ -158,7 +161,8 @@ fn state_by(
 ) -> Result<StateGroup, NoMemory>
     requires empty { IsTrue (has_text [] names.now) }
     requires knows { Knows names.now frame.now }
-    ensures { IfOk result (λ s. state_view names.now s ≡ state_by place (frame_view names.now frame.now) (map (group_view names.now) groups.now) (group_view names.now group.now)) }
+    ensures same { IfOk result (λ s. state_view names.now s ≡ state_by place (frame_view names.now frame.now) (map (group_view names.now) groups.now) (group_view names.now group.now)) }
+    ensures below { IfOk result (λ s. numbers_below (length names.now) (state_numbers s) ≡ true) }
 {
     let signals = &frame.signals;
     let next = next_text(alloc, names, group)?;
@@ -201,7 +205,8 @@ pub fn state_of(
 ) -> Result<Option<StateGroup>, NoMemory>
     requires empty { IsTrue (has_text [] names.now) }
     requires knows { Knows names.now frame.now }
-    ensures { IfOk result (λ o. option_map (state_view names.now) o ≡ state_of place (frame_view names.now frame.now) (map (group_view names.now) groups.now)) }
+    ensures same { IfOk result (λ o. option_map (state_view names.now) o ≡ state_of place (frame_view names.now frame.now) (map (group_view names.now) groups.now)) }
+    ensures below { IfOk result (λ o. numbers_below (length names.now) (option_numbers state_numbers o) ≡ true) }
 {
     match first_state(names, place, groups) {
         None => Ok(None),

@@ -1,6 +1,5 @@
-use Rattle.std.proofs.Common.{◌≡◌, ◌++◌, [], drop}
-use Rattle.std.specs.Prelude.{map}
-use Rattle.std.specs.List.{list_any, list_all}
+use Rattle.std.proofs.Common.{◌≡◌, drop}
+use Rattle.std.specs.List.{list_all}
 use Rattle.lp_model.specs.Agreement.{name_texts}
 use Rattle.lp_cells.specs.Reasons.{is_visible}
 use Rattle.lp_cells.proofs.judge.are_visible.Given as goal

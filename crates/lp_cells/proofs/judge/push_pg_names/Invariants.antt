@@ -1,7 +1,5 @@
-use Rattle.std.proofs.Common.{◌≡◌, ◌++◌, [], drop}
+use Rattle.std.proofs.Common.{◌≡◌, ◌++◌, drop}
 use Rattle.std.specs.Prelude.{map}
-use Rattle.std.specs.List.{list_any, list_all}
-use Rattle.lp_model.specs.Agreement.{name_texts}
 use Rattle.lp_cells.proofs.judge.push_pg_names.Given as goal
 
 abbrev pub invariant-loop-pg : goal.invariant-loop-pg

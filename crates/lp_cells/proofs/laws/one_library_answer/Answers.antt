@@ -1,4 +1,4 @@
-use Rattle.std.proofs.Common.{◌≡◌, ℕ, List, [], Option, Some, None, refl, sym, ap, ◌∙◌}
+use Rattle.std.proofs.Common.{◌≡◌, ℕ, List, [], refl, sym, ap, ◌∙◌}
 use Rattle.lp_model.specs.GroupsView.{GroupView}
 use Rattle.lp_model.specs.LibraryView.{CellView}
 use Rattle.lp_model.specs.declared.fault.refusal.Refusal.{Refusal}

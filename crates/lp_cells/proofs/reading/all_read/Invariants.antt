@@ -1,6 +1,6 @@
 use Rattle.std.proofs.Common.{◌≡◌, drop}
 use Rattle.std.specs.Prelude.{map}
-use Rattle.std.specs.List.{list_any, list_all}
+use Rattle.std.specs.List.{list_all}
 use Rattle.lp_model.specs.GroupsView.{group_view}
 use Rattle.lp_cells.specs.Reasons.{reads_all}
 use Rattle.lp_parts.specs.Views.{frame_view}

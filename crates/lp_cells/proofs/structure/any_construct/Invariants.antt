@@ -1,9 +1,8 @@
 use Rattle.std.proofs.Common.{◌≡◌, drop}
 use Rattle.std.specs.Prelude.{map}
-use Rattle.std.specs.List.{list_any, list_all}
+use Rattle.std.specs.List.{list_any}
 use Rattle.lp_model.specs.GroupsView.{group_view}
 use Rattle.lp_cells.specs.Reasons.{is_construct}
-use Rattle.lp_parts.specs.Views.{frame_view}
 use Rattle.lp_cells.proofs.structure.any_construct.Given as goal
 
 abbrev pub invariant-loop-group : goal.invariant-loop-group
