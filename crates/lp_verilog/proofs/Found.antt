@@ -40,6 +40,9 @@ placed names text = by (has_text text names) refl
     by true e = there (place_of text names) refl e
     by false e = (length names, place_of-push names text e)
 
+pub has_put : (names : List (List ℕ)) (text : List ℕ) → has_text text (with_text names text) ≡ true
+has_put names text = let p = placed names text in sym (is_some-place_of text (with_text names text)) ∙ ap is_some p.1
+
 -- a token has the same number in every table that has grown from its own
 pub same_token : (names final : List (List ℕ)) (l : Lexeme) → Grown (names_with names l) final → (token_in names l ≡ numbered final l) × (is_known final l ≡ true)
 same_token names final (Plain t) g = (refl, refl)

@@ -17,3 +17,8 @@ pub mod Fronts
 pub mod Leaving
 pub mod Faults
 pub mod Unread
+pub mod Lines
+pub mod Phases
+pub mod Phased
+pub mod Numbers
+pub mod Standing

@@ -1,8 +1,8 @@
 -- The tokens of a text stand in other texts too: the same bytes, with blanks before them.
 use Rattle.std.proofs.Common.{◌≡◌, ℕ, zero, suc, ◌+◌, ◌⊎◌, inl, inr, Bool, true, false, List, [], ◌∷◌, ◌++◌, length, take, drop, Option, Some, None, refl, sym, ap, ◌∙◌, subst, arith}
-use Rattle.std.specs.Prelude.{cond, not, nat_lt, ◌*◌, ◌-◌, ◌&&◌, ◌||◌, ◌==◌, if◌then◌else◌}
+use Rattle.std.specs.Prelude.{cond, not, nat_le, nat_lt, ◌*◌, ◌-◌, ◌&&◌, ◌||◌, ◌==◌, if◌then◌else◌}
 use Rattle.std.specs.List.{list_all, list_any, prefix_len}
-use Rattle.std.proofs.lemmas.Bool.{true≢false, and_from}
+use Rattle.std.proofs.lemmas.Bool.{true≢false, and_parts, and_from}
 use Rattle.std.proofs.lemmas.Bool.Decides.{nat_tests}
 use Rattle.lp_text.specs.Texts.{has_text, same_text}
 use Rattle.lp_verilog_tokens.specs.declared.token.Token.{Token}
@@ -27,6 +27,7 @@ nameable text = list_all is_visible text && nat_lt 0 (length text)
 abbrev pub fine : Lexeme → Bool
 fine (Named text) = nameable text
 fine (Plain (tokens.Number (Some v))) = is_small v
+fine (Plain (tokens.Constant size value)) = nat_lt 0 size
 fine (Plain _) = true
 
 number_fine : (run : List ℕ) (value : ℕ) → is_small value ≡ true → fine (Plain (tokens.Number (number_behind value run))) ≡ true
@@ -67,32 +68,38 @@ mark_fine b = by (b == 40) (b == 41) (b == 91) (b == 93) (b == 123) (b == 125) (
     by false false false false false false false false false false true = refl
     by false false false false false false false false false false false = refl
 
-fitted_fine : (size : ℕ) (o : Option ℕ) → fine (Plain (fitted size o)) ≡ true
-fitted_fine size None = refl
-fitted_fine size (Some value) = by (nat_lt value _)
+fitted_fine : (size : ℕ) (o : Option ℕ) → nat_lt 0 size ≡ true → fine (Plain (fitted size o)) ≡ true
+fitted_fine size None h = refl
+fitted_fine size (Some value) h = by (nat_lt value _)
   where
     by : (t : Bool) → fine (Plain (if t then tokens.Constant size value else tokens.Unread)) ≡ true
-    by true = refl
+    by true = h
     by false = refl
 
-sized_fine : (base : ℕ) (digits : List ℕ) (o : Option ℕ) → fine (Plain (sized base digits o)) ≡ true
-sized_fine base digits None = refl
-sized_fine base digits (Some size) = by (list_any is_unknown digits) (fitted size (value_behind base 0 digits)) (fitted_fine size (value_behind base 0 digits))
+size_some : (size : ℕ) → is_size (Some size) ≡ true → nat_lt 0 size ≡ true
+size_some size h = let parts = and_parts (nat_le 1 size) (nat_le size 128) h in positive size parts.0
+  where
+    positive : (n : ℕ) → nat_le 1 n ≡ true → nat_lt 0 n ≡ true
+    positive n k = grind (arith, nat_tests)
+
+sized_fine : (base : ℕ) (digits : List ℕ) (o : Option ℕ) → is_size o ≡ true → fine (Plain (sized base digits o)) ≡ true
+sized_fine base digits None h = refl
+sized_fine base digits (Some size) h = by (list_any is_unknown digits) (fitted size (value_behind base 0 digits)) (fitted_fine size (value_behind base 0 digits) (size_some size h))
   where
     by : (t : Bool) (token : Token) → fine (Plain token) ≡ true → fine (Plain (if t then tokens.Unread else token)) ≡ true
-    by true token h = refl
-    by false token h = h
+    by true token k = refl
+    by false token k = k
 
-either_fine : (t : Bool) (token : Token) → fine (Plain token) ≡ true → fine (Plain (if t then token else tokens.Broken)) ≡ true
-either_fine true token h = h
+either_fine : (t : Bool) (token : Token) → (t ≡ true → fine (Plain token) ≡ true) → fine (Plain (if t then token else tokens.Broken)) ≡ true
+either_fine true token h = h refl
 either_fine false token h = refl
 
 constant_fine : (size body : List ℕ) → fine (Plain (constant_of size body)) ≡ true
 constant_fine size [] = refl
-constant_fine [] (b ∷ digits) = either_fine (nat_lt 0 (base_of b) && are_digits (base_of b) digits) tokens.Unread refl
+constant_fine [] (b ∷ digits) = either_fine (nat_lt 0 (base_of b) && are_digits (base_of b) digits) tokens.Unread (λ e. refl)
 constant_fine (d ∷ size) (b ∷ digits) =
     either_fine (nat_lt 0 (base_of b) && are_digits (base_of b) digits) (constant_with (d ∷ size) (base_of b) digits)
-    (either_fine (not (d == 48) && is_size (number_of (d ∷ size))) (sized (base_of b) digits (number_of (d ∷ size))) (sized_fine (base_of b) digits (number_of (d ∷ size))))
+    (λ e. either_fine (not (d == 48) && is_size (number_of (d ∷ size))) (sized (base_of b) digits (number_of (d ∷ size))) (λ k. sized_fine (base_of b) digits (number_of (d ∷ size)) (and_parts (not (d == 48)) (is_size (number_of (d ∷ size))) k).1))
 
 word_fine : (b : ℕ) (w : List ℕ) → list_all is_inner (b ∷ w) ≡ true → fine (word_lexeme (b ∷ w)) ≡ true
 word_fine b w h = by (has_text (b ∷ w) reserved_words)

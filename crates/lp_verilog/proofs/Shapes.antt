@@ -192,7 +192,7 @@ Good n es = (uniq es ≡ true) × (list_all (entry_ok n) es ≡ true)
 eq_refl : (k : ℕ) → nat_eq k k ≡ true
 eq_refl k = eq-eqb k k refl
 
-eq_sym : (j k : ℕ) → nat_eq j k ≡ false → nat_eq k j ≡ false
+pub eq_sym : (j k : ℕ) → nat_eq j k ≡ false → nat_eq k j ≡ false
 eq_sym j k e = false_from_ne_true (nat_eq k j) (λ h. absurd (true≢false (sym (eq-eqb j k (sym (eqb-true k j h))) ∙ e)))
 
 has_insert : (j k : ℕ) (v : Entry) → nat_eq j k ≡ false → (es : Entries) → has j (insert_entry nat_eq es k v) ≡ has j es

@@ -100,7 +100,7 @@ with_clean names (Named text) most h c = by (has_text text names) refl
         let few = c.few in
         record { apart = distinct-push names text ∙ and_from (not (has_text text names)) (distinct names) (ap not e) c.apart; all = all_end names text c.all h; few = omega (arith, sum, few) }
 
-abbrev piece_is_fine : Option Piece → Bool
+abbrev pub piece_is_fine : Option Piece → Bool
 piece_is_fine None = true
 piece_is_fine (Some p) = fine p.lexeme
 

@@ -1,6 +1,6 @@
 -- What the reader of netlists answers.
-use Rattle.std.specs.Prelude.{◌≡◌, ◌<◌, ◌≤◌, ◌⊎◌, ℕ, List, length, unwrap_or}
-use Rattle.lp_text.specs.Texts.{place_of}
+use Rattle.std.specs.Prelude.{◌≡◌, ◌<◌, ◌≤◌, ◌⊎◌, ℕ, true, List, length, unwrap_or}
+use Rattle.lp_text.specs.Texts.{place_of, has_text}
 use Rattle.lp_text.specs.Places.{place_in}
 use Rattle.lp_model.specs.declared.fault.netlist.NetlistFault.{NetlistFault}
 use Rattle.lp_model.specs.declared.fault.netlist.NetlistFault.TheVariants as faults
@@ -23,12 +23,14 @@ fault_of names text at word offs.Unsupported = faults.Unsupported (place_in text
 fault_of names text at word (offs.Duplicate name) = faults.DuplicateName (place_in text at) name
 fault_of names text at word (offs.Lacking port) = faults.Syntax (place_in text port)
 
--- the first token that cannot stand where it does, and its fault; there the text leaves the netlists
+-- the first token that cannot stand where it does, and its fault; there the text leaves the netlists, and a word that is not
+-- read is among the names
 pub record StopsAt (names : List (List ℕ)) (text : List ℕ) (r : Refusal) : Type 0 where
   pub off : Off
   pub at : ℕ
   pub word : List ℕ
   pub leads : LeadsTo names text (Left off at word)
+  pub known : off ≡ offs.Unsupported → has_text word names ≡ true
   pub fault : r ≡ netlist_refusal (fault_of names text at word off)
   pub first : FirstFault text at
 
@@ -40,6 +42,11 @@ too_long = netlist_refusal (faults.Limit limits.Bytes)
 abbrev pub IsFault : Refusal → NetlistFault → Type 0
 IsFault refusals.NoMemory f = Unit {0}
 IsFault (refusals.Fault fault) f = refusals.Fault fault ≡ netlist_refusal f
+
+-- a refusal that names a word of the table, or one for want of memory
+abbrev pub HasWord : Refusal → List ℕ → List (List ℕ) → Type 0
+HasWord refusals.NoMemory word names = Unit {0}
+HasWord (refusals.Fault fault) word names = has_text word names ≡ true
 
 -- a text that is too long, or the first token that cannot stand where it does
 abbrev pub Refuses : List (List ℕ) → List ℕ → Refusal → Type 0

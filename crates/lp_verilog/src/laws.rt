@@ -1,11 +1,17 @@
 //! Laws about the definitions alone: each is the clause of a function that does nothing.
 ghost use Rattle.std.specs.Prelude.{◌≡◌, ◌≤◌, ℕ, List, true, length, map};
+ghost use Rattle.std.specs.List.{flat_map};
 ghost use Rattle.lp_text.specs.Texts.{distinct, Grown};
+ghost use Rattle.lp_model.specs.declared.fault.refusal.Fault.{Fault};
+ghost use Rattle.lp_model.specs.declared.fault.refusal.Refusal.TheVariants as refusals;
 ghost use Rattle.lp_model.specs.declared.netlist.Module.{Module};
-ghost use Rattle.lp_model.specs.NetlistView.{ModuleView, module_view};
+ghost use Rattle.lp_model.specs.Agreement.{numbers_below};
+ghost use Rattle.lp_model.specs.FaultLines.{fault_line};
+ghost use Rattle.lp_model.specs.NetlistView.{ModuleView, module_numbers, module_view};
 ghost use Rattle.lp_verilog.specs.Denotes.{Denotes, LeadsTo};
 ghost use Rattle.lp_verilog.specs.Reads.{Reads};
 ghost use Rattle.lp_verilog.specs.Reading.{Outcome};
+ghost use Rattle.lp_verilog.specs.Refusing.{Refuses};
 
 /// A text denotes at most one netlist, by the texts of its names.
 pub fn one_netlist()
@@ -15,6 +21,21 @@ pub fn one_netlist()
 /// Over one table of names a text leads to at most one outcome.
 pub fn one_outcome()
     ensures { (names : List (List ℕ)) (text : List ℕ) (a b : Outcome) → LeadsTo names text a → LeadsTo names text b → a ≡ b }
+{}
+
+/// The line of the fault of a text is the same over every table of names.
+pub fn one_line()
+    ensures { (a b : List (List ℕ)) (text : List ℕ) (f g : Fault) → distinct a ≡ true → length a ≤ 4294967295 → distinct b ≡ true → length b ≤ 4294967295 → Refuses a text (refusals.Fault f) → Refuses b text (refusals.Fault g) → fault_line a f ≡ fault_line b g }
+{}
+
+/// A text that is refused, and is not too long, denotes no netlist.
+pub fn refused_reads_nothing()
+    ensures { (names : List (List ℕ)) (text : List ℕ) (f : Fault) (v : List ModuleView) → distinct names ≡ true → length names ≤ 4294967295 → length text ≤ 67108864 → Refuses names text (refusals.Fault f) → Reads text v → ⊥ }
+{}
+
+/// The numbers in what a text denotes lie below the count of the names.
+pub fn numbers_stand()
+    ensures { (names : List (List ℕ)) (text : List ℕ) (modules : List Module) → distinct names ≡ true → length names ≤ 4294967295 → Denotes names text modules → numbers_below (length names) (flat_map module_numbers modules) ≡ true }
 {}
 
 /// What a text denotes stays the same when the table of its names grows.

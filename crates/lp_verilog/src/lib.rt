@@ -6,7 +6,10 @@ mod naming;
 mod netlist;
 mod reading;
 
-pub use laws::{grown_names_keep_readings, one_netlist, one_outcome};
+pub use laws::{
+    grown_names_keep_readings, numbers_stand, one_line, one_netlist, one_outcome,
+    refused_reads_nothing,
+};
 pub use netlist::read_netlist;
 
 #[cfg(test)]

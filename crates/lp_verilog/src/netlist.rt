@@ -8,7 +8,7 @@ ghost use Rattle.lp_verilog.specs.Reads.{Reads};
 ghost use Rattle.lp_verilog_tokens.specs.Lexical.{is_visible};
 ghost use Rattle.lp_verilog_draft.specs.declared.stop.Off.TheVariants as offs;
 ghost use Rattle.lp_verilog.specs.Answers.{SameUnless};
-ghost use Rattle.lp_verilog.specs.Refusing.{IsFault, Refuses, HasNone, fault_of};
+ghost use Rattle.lp_verilog.specs.Refusing.{IsFault, HasWord, Refuses, HasNone, fault_of};
 
 use crate::naming::intern;
 use crate::reading::{Halt, read_modules};
@@ -32,6 +32,7 @@ fn refusal(names: &mut Names, text: &[u8], off: Off, at: usize, word: &[u8]) -> 
     requires room { length names.old < 4294967295 }
     requires seen { off ≡ offs.Unsupported → IsTrue (list_all is_visible word.now) }
     ensures fault { IsFault result (fault_of names.new text.now at word.now off) }
+    ensures known { off ≡ offs.Unsupported → HasWord result word.now names.new }
     ensures grown { Grown names.old names.new }
     ensures few { length names.new ≤ length names.old + 1 }
     ensures same { SameUnless off names.old names.new }

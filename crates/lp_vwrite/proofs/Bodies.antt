@@ -22,7 +22,7 @@ use Rattle.lp_verilog_grammar.specs.declared.symbol.Symbol.TheVariants as symbol
 use Rattle.lp_verilog_grammar.specs.Machine.{finish_module}
 use Rattle.lp_verilog.specs.Reading.{Outcome}
 use Rattle.lp_vwrite.specs.Layout.{declared, range_of, port_line, net_line, instance_line, assign_line}
-use Rattle.lp_vwrite.specs.WellFormed.{is_name, is_range, is_net, is_bit, is_connection, are_connections, is_instance, is_assign, is_filled, is_constant}
+use Rattle.lp_vwrite.specs.WellFormed.{is_name, is_range, is_net, is_bit, is_connection, are_connections, is_instance, is_assign, is_filled, is_constant, port_names_of, instance_texts, module_texts}
 use Rattle.lp_vwrite.proofs.Onward.{Then, Onward}
 use Rattle.lp_vwrite.proofs.Parts.{id, line_onward, endmodule_onward}
 use Rattle.lp_vwrite.proofs.Scope.{Declared, port_entry, listed_entry, wire_entry, instance_entry, names_in, plain, keyed, all_known, is_net_entry, absent_before, ports-plain, nets-plain, lacking-plain}
@@ -142,18 +142,6 @@ keyed_all names ps ns is =
 
 finish_read : (m : Reader) (x : Module) → lacking_of m.draft.scope ≡ None → draft.module_of m.draft ≡ x → finish_module m ≡ Goes (record m { modules = m.modules ++ x ∷ []; draft = draft.module_named m.draft.name })
 finish_read m x h e = ap (λ r. and_then (draft.end_by m.draft r) (λ module_. Goes (record m { modules = m.modules ++ module_ ∷ []; draft = draft.module_named m.draft.name }))) h ∙ ap (λ y. Goes (record m { modules = m.modules ++ y ∷ []; draft = draft.module_named m.draft.name })) e
-
--- the names in an instance that are not in the name space of its module
-abbrev pub port_names_of : ConnectionsView → List (List ℕ)
-port_names_of (ByName cs) = map (λ c. c.port) cs
-port_names_of (ByPosition values) = []
-
-abbrev pub instance_texts : InstanceView → List (List ℕ)
-instance_texts i = i.name ∷ i.target ∷ port_names_of i.connections
-
--- the names in a module, but for those of bits
-abbrev pub module_texts : ModuleView → List (List ℕ)
-module_texts m = m.name ∷ (port_names m.ports ++ (net_names m.nets ++ flat_map instance_texts m.instances))
 
 module _ (names : List (List ℕ)) (size : ℕ) (o : Outcome) where
   module _ (ranges : List ℕ → Option BitRange) (modules : List Module) (taken : List ℕ) (name : NameId) where

@@ -12,3 +12,8 @@ pub mod ModuleSteps
 pub mod Bodies
 pub mod WholeText
 pub mod ReadBack
+pub mod Numbered
+pub mod Nets
+pub mod Formed
+pub mod Seen
+pub mod Sighted

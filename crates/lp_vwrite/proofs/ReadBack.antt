@@ -13,7 +13,7 @@ use Rattle.lp_verilog_grammar.specs.Machine.{start}
 use Rattle.lp_verilog.specs.Reading.{Outcome, Whole}
 use Rattle.lp_verilog.specs.Reads.{Reads}
 use Rattle.lp_vwrite.specs.Layout.{name_text, after_comma, declared, range_of, connection_text, connections_text, header_line, port_line, net_line, instance_line, assign_line, module_text, layout}
-use Rattle.lp_vwrite.specs.WellFormed.{is_name, is_net, is_bit, is_connection, are_connections, is_instance, is_assign, is_module, is_filled, is_constant, names_of, IsWellFormed}
+use Rattle.lp_vwrite.specs.WellFormed.{is_name, is_net, is_bit, is_connection, are_connections, is_instance, is_assign, is_module, is_filled, is_constant, names_of, IsWellFormed, module_texts, instance_texts, port_names_of, HasTable}
 use Rattle.lp_vwrite.proofs.Onward.{end_onward}
 use Rattle.lp_vwrite.proofs.Parts.{id}
 use Rattle.lp_vwrite.proofs.Scope.{all_known, text_known, absent_before}
@@ -21,7 +21,7 @@ use Rattle.lp_vwrite.proofs.Instances.{connection_of}
 use Rattle.lp_vwrite.proofs.ItemSteps.{connections_of, instance_of, assign_of}
 use Rattle.lp_vwrite.proofs.Facts.{bits_back}
 use Rattle.lp_vwrite.proofs.ModuleSteps.{port_names, Between}
-use Rattle.lp_vwrite.proofs.Bodies.{port_of, net_of, module_of, module_texts, instance_texts, port_names_of, net_names}
+use Rattle.lp_vwrite.proofs.Bodies.{port_of, net_of, module_of, net_names}
 use Rattle.lp_vwrite.proofs.WholeText.{module_steps, declared_known}
 
 -- ---- a table of names
@@ -243,25 +243,33 @@ module _ (names : List (List ℕ)) where
       let taken : numbers pushed ≡ numbers done ++ (id names m.name).0 ∷ [] = map-append (λ x. (id names x).0) done (m.name ∷ []) in
       module_steps names size o m (flat_map module_text ms) modules done g.0 ks.0 known (absent_before done m.name later apart) (subst (λ x. Between names size o no_ranges (flat_map module_text ms) (modules ++ module_of names m ∷ []) x) taken others)
 
--- what is written reads back
-pub read_back : (v : List ModuleView) → IsWellFormed v → length (layout v) ≤ 67108864 → Reads (layout v) v
+-- what is written reads back, over a table that has its names
+pub read_back : (v : List ModuleView) → IsWellFormed v → HasTable v → Reads (layout v) v
 unfolding layout
-read_back v h short =
+read_back v h t =
     let parts = and_parts (distinct (map (λ m. m.name) v)) (list_all is_module v) h in
-    let texts = flat_map module_texts v in
-    let names = gathered texts in
-    let known : all_known names texts ≡ true = known_tail [] texts in
+    let names = t.names in
     let modules = map (module_of names) v in
-    let text = flat_map module_text v in
-    let size = length text in
-    let few : length names ≤ 4294967295 = let a = gathered_short texts in let b = flat_map_length module_texts module_text module_long v in omega (arith, a, b) in
-    let steps = modules_steps names size (Whole modules) v [] [] parts.1 known refl parts.0 (λ d declaring t n p positional side s q i. end_onward names size (Whole modules) _ refl) in
+    let size = length (flat_map module_text v) in
+    let steps = modules_steps names size (Whole modules) v [] [] parts.1 t.known refl parts.0 (λ d declaring target n p positional side s q i. end_onward names size (Whole modules) _ refl) in
     let led = steps start.draft start.declaring start.joint.target start.joint.name start.joint.port start.joint.positional start.value.side start.value.subject start.value.range start.value.index true [] refl in
     record {
       names = names;
       modules = modules;
-      apart = gathered_distinct texts;
-      few = few;
+      apart = t.apart;
+      few = t.few;
       denotes = record { tokens = led.0; leads = led.1 };
-      seen = sym (modules_back names v parts.1 known);
+      seen = sym (modules_back names v parts.1 t.known);
+    }
+
+-- the names of a text that is not too long are few enough for a table
+pub short_table : (v : List ModuleView) → length (layout v) ≤ 67108864 → HasTable v
+unfolding layout
+short_table v short =
+    let texts = flat_map module_texts v in
+    record {
+      names = gathered texts;
+      apart = gathered_distinct texts;
+      few = let a = gathered_short texts in let b = flat_map_length module_texts module_text module_long v in omega (arith, a, b);
+      known = known_tail [] texts;
     }

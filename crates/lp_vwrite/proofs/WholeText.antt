@@ -10,13 +10,13 @@ use Rattle.lp_model.specs.declared.netlist.Module.{Module}
 use Rattle.lp_model.specs.NetlistView.{PortView, NetView, InstanceView, ModuleView}
 use Rattle.lp_verilog.specs.Reading.{Outcome}
 use Rattle.lp_vwrite.specs.Layout.{declared, range_of, header_line, port_line, net_line, instance_line, assign_line, module_text}
-use Rattle.lp_vwrite.specs.WellFormed.{is_name, is_net, is_instance, is_assign, is_module, names_of}
+use Rattle.lp_vwrite.specs.WellFormed.{is_name, is_net, is_instance, is_assign, is_module, names_of, instance_texts, module_texts}
 use Rattle.lp_vwrite.proofs.Parts.{id}
 use Rattle.lp_vwrite.proofs.Scope.{names_in, all_known}
 use Rattle.lp_vwrite.proofs.ItemSteps.{Ready, instance_of, assign_of}
 use Rattle.lp_vwrite.proofs.ModuleSteps.{port_names, Between, header_onward}
 use Rattle.lp_vwrite.proofs.Facts.{Nets}
-use Rattle.lp_vwrite.proofs.Bodies.{port_nets, net_nets, module_of, module_texts, instance_texts, net_names, instance_names, declared_ports, declared_nets, declared_instances, ports_lines, nets_lines, instances_lines, assigns_lines, ended_module, names_of_ports, names_of_nets, names_of_instances, port_names_good}
+use Rattle.lp_vwrite.proofs.Bodies.{port_nets, net_nets, module_of, net_names, instance_names, declared_ports, declared_nets, declared_instances, ports_lines, nets_lines, instances_lines, assigns_lines, ended_module, names_of_ports, names_of_nets, names_of_instances, port_names_good}
 
 abbrev texts_of : Nets → List (List ℕ)
 texts_of nets = map (λ n. n.0) nets

@@ -1,3 +1,4 @@
 pub mod Layout
 pub mod WellFormed
 pub mod Examples
+pub mod Sound

@@ -1,10 +1,10 @@
 -- Which netlists can be written so that they are read again (own rule, after IEEE 1364-2005).
-use Rattle.std.specs.Prelude.{ℕ, Bool, true, false, not, ◌&&◌, nat_le, List, [], ◌∷◌, ◌++◌, map, Option, Some, None, IsTrue}
+use Rattle.std.specs.Prelude.{◌≡◌, ◌≤◌, ℕ, length, Bool, true, false, not, ◌&&◌, nat_le, List, [], ◌∷◌, ◌++◌, map, Option, Some, None, IsTrue, flat_map}
 use Rattle.std.specs.List.{list_all}
 use Rattle.std.specs.Map.{lookup}
-use Rattle.lp_text.specs.Texts.{same_text, distinct}
+use Rattle.lp_text.specs.Texts.{same_text, has_text, distinct}
 use Rattle.lp_model.specs.declared.netlist.BitRange.{BitRange}
-use Rattle.lp_model.specs.NetlistView.{BitView, NetBit, SelectBit, ConstBit, ConnectionView, ConnectionsView, ByName, ByPosition, InstanceView, AssignView, ModuleView}
+use Rattle.lp_model.specs.NetlistView.{BitView, NetBit, SelectBit, ConstBit, PortView, NetView, ConnectionView, ConnectionsView, ByName, ByPosition, InstanceView, AssignView, ModuleView}
 use Rattle.lp_verilog_tokens.specs.Lexical.{is_visible}
 use Rattle.lp_verilog_draft.specs.Values.{is_in}
 use Rattle.lp_vwrite.specs.Layout.{declared}
@@ -80,3 +80,23 @@ is_well_formed modules = distinct (map (λ m. m.name) modules) && list_all is_mo
 
 abbrev pub IsWellFormed : List ModuleView → Type 0
 IsWellFormed modules = IsTrue (is_well_formed modules)
+
+-- ---- a table of the names
+
+abbrev pub port_names_of : ConnectionsView → List (List ℕ)
+port_names_of (ByName cs) = map (λ (c : ConnectionView). c.port) cs
+port_names_of (ByPosition values) = []
+
+abbrev pub instance_texts : InstanceView → List (List ℕ)
+instance_texts i = i.name ∷ i.target ∷ port_names_of i.connections
+
+-- the names in a module, but for those of bits, which are declared
+abbrev pub module_texts : ModuleView → List (List ℕ)
+module_texts m = m.name ∷ (map (λ (p : PortView). p.name) m.ports ++ (map (λ (n : NetView). n.name) m.nets ++ flat_map instance_texts m.instances))
+
+-- distinct texts, as many as a table of names can have, with all names of the modules among them
+pub record HasTable (modules : List ModuleView) : Type 0 where
+  pub names : List (List ℕ)
+  pub apart : distinct names ≡ true
+  pub few : length names ≤ 4294967295
+  pub known : list_all (λ t. has_text t names) (flat_map module_texts modules) ≡ true

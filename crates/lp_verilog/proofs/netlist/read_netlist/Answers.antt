@@ -21,7 +21,7 @@ returns-in-Err-Left-clause-err c =
     let names = c.read_modules.new.names in
     let before = leads_to c.args.bytes.now c.args.names.now names names (Left c.in-Err-Left.off c.in-Err-Left.at c.in-Err-Left.word.now) reads (grown_same names) in
     let first = first_fault names c.args.bytes.now c.in-Err-Left.off c.in-Err-Left.at c.in-Err-Left.word.now c.count-in-Err-Left.ensures.distinct (omega arith) (omega arith) before in
-    refused c.refusal.new.names c.args.bytes.now c.refusal.result c.in-Err-Left.off c.in-Err-Left.at c.in-Err-Left.word.now (omega arith) leads first c.refusal.ensures.fault
+    refused c.refusal.new.names c.args.bytes.now c.refusal.result c.in-Err-Left.off c.in-Err-Left.at c.in-Err-Left.word.now (omega arith) leads c.refusal.ensures.known first c.refusal.ensures.fault
 
 pub returns-in-Err-Left-clause-none : goal.returns-in-Err-Left-clause-none
 returns-in-Err-Left-clause-none c =
