@@ -1,64 +1,132 @@
 -- The texts of an accepted design keep their promises.
-use Rattle.std.proofs.Common.{◌≡◌, ℕ, List, map, refl, sym, subst}
-use Rattle.std.specs.Prelude.{IsTrue}
-use Rattle.lp_small.specs.declared.netlist.Module.{Module}
-use Rattle.lp_small.specs.declared.cell.Cell.{Cell}
-use Rattle.lp_small.specs.Names.{is_distinct}
-use Rattle.lp_small.specs.Liberty.{is_free_name, IsLibrary}
-use Rattle.lp_small.specs.Verilog.{Reads}
-use Rattle.lp_small.specs.Layout.{layout}
-use Rattle.lp_small.specs.WellFormed.{IsWellFormed}
-use Rattle.lp_small_meaning.specs.Intent.{Design}
-use Rattle.lp_small_meaning.specs.Sound.{IsSound, IsOrdered}
-use Rattle.lp_small_meaning.specs.Faults.{Inputs, ReadsAll}
-use Rattle.lp_small_meaning.specs.Written.{powered, supply_ports, Supplied, report_text, Headline}
-use Rattle.lp_small_meaning.specs.Promise.{IsWritten, HeadlineHolds}
-use Rattle.lp_top.specs.declared.accepting.Accepted.{Accepted}
-use Rattle.lp_top.specs.Accepting.{IsAccepted, design_of}
+use Rattle.std.proofs.Common.{◌≡◌, ℕ, Bool, true, false, not, List, [], ◌∷◌, map, length, refl, sym, ap, ◌∙◌, subst}
+use Rattle.std.specs.Prelude.{bytes_eq, Err}
+use Rattle.std.specs.List.{list_all, flat_map}
+use Rattle.std.proofs.lemmas.List.{append-nil}
+use Rattle.std.proofs.lemmas.Bool.{not-true}
+use Rattle.lp_settling.specs.Settling.{IsOrder, Covers}
+use Rattle.lp_model.specs.Agreement.{numbers_below}
+use Rattle.lp_model.specs.declared.library.Cell.{Cell}
+use Rattle.lp_model.specs.declared.netlist.Module.{Module}
+use Rattle.lp_model.specs.declared.netlist.Netlist.{Netlist}
+use Rattle.lp_model.specs.NetlistView.{ModuleView, module_view, module_numbers, netlist_view, netlist_numbers}
+use Rattle.lp_model.specs.LibraryView.{CellView, cell_view}
+use Rattle.lp_design.specs.Keys.{Name}
+use Rattle.lp_design.specs.Settled.{Event, Key}
+use Rattle.lp_design.specs.Registers.{States}
+use Rattle.lp_design.specs.Reads.{keys, reads}
+use Rattle.lp_pins.specs.Supplied.{is_supplied}
+use Rattle.lp_plain.specs.Alike.{RunsAlike}
+use Rattle.lp_flat.specs.Designs.{Flat, design_of}
+use Rattle.lp_flat.specs.Netlists.{powered, netlist_of, origin_of}
+use Rattle.lp_flat.specs.Tests.{is_flat}
+use Rattle.lp_verilog.specs.Reads.{Reads}
+use Rattle.lp_verilog_tokens.specs.Lexical.{is_visible}
+use Rattle.lp_vwrite.specs.Layout.{layout}
+use Rattle.lp_vwrite.specs.WellFormed.{IsWellFormed, HasTable}
+use Rattle.lp_single.specs.Single.{is_single_module}
+use Rattle.lp_single.specs.Fits.{is_fit, are_plain}
+use Rattle.lp_single.specs.Flats.{flat_of}
+use Rattle.lp_small.specs.declared.intent.Intent.{Intent}
+use Rattle.lp_insertion.specs.Inputs.{Inputs, Accepts}
+use Rattle.lp_insertion.specs.Faults.{FirstFault}
+use Rattle.lp_insertion.specs.Promise.{IsWritten, HeadlineHolds, HasDesign, report_text}
+use Rattle.lp_accept.specs.declared.accepted.Accepted.{Accepted}
+use Rattle.lp_accept.specs.declared.stop.Stop.{Stop}
+use Rattle.lp_accept.specs.declared.stop.Stop.TheVariants as stops
+use Rattle.lp_accept.specs.Stages.{OrStop}
+use Rattle.lp_accept.specs.Judged.{IsAccepted, cells_of, source_of, flat_by}
+use Rattle.lp_top.specs.declared.design.Refusal.{Refusal}
+use Rattle.lp_top.specs.declared.design.Refusal.TheVariants as refusals
+use Rattle.lp_top.specs.Design.{RefusedBy, GivesFault, GivesTexts, OfStop}
 
-module _ (inputs : Inputs) (a : Accepted) (margin : ℕ) (is : IsAccepted inputs a margin)
-    (is_sound : (inputs : Inputs) (design : Design) → ReadsAll inputs design → IsSound design)
-    (well_formed : (text : List ℕ) (design : Design) → Reads text design.source → IsSound design → IsTrue (is_free_name design.intent.power) → IsTrue (is_free_name design.intent.gnd) → IsWellFormed (powered design.cells design.intent design.source))
-    (reads_back : (m : Module) → IsWellFormed m → Reads (layout m) m)
-    (one_netlist : (text : List ℕ) (x y : Module) → Reads text x → Reads text y → x ≡ y)
-    (supplied : (design : Design) → IsSound design → Supplied design.cells (powered design.cells design.intent design.source) (supply_ports design.intent))
-    (netlist : List ℕ) (spelled : netlist ≡ layout (powered a.cells a.intent a.source)) where
-  abbrev written : Module
-  written = powered a.cells a.intent a.source
+module _ (inputs : Inputs) (a : Accepted) (is : IsAccepted inputs a) (margin : ℕ)
+    (fits_flat : (cells : List CellView) (m : ModuleView) (power gnd : Name) (margin : ℕ) → is_single_module m ≡ true → is_fit cells m ≡ true → are_plain cells m ≡ true → bytes_eq power gnd ≡ false → is_flat (flat_of cells m power gnd margin) ≡ true)
+    (well_formed : (cells : List CellView) (m : ModuleView) (power gnd : Name) (margin : ℕ) → is_single_module m ≡ true → is_fit cells m ≡ true → bytes_eq power gnd ≡ false → list_all is_visible power ≡ true → list_all is_visible gnd ≡ true → IsWellFormed (powered (flat_of cells m power gnd margin) ∷ []))
+    (back : (v : List ModuleView) → IsWellFormed v → HasTable v → Reads (layout v) v)
+    (alone : (v w : List ModuleView) → IsWellFormed v → HasTable v → Reads (layout v) w → w ≡ v)
+    (supplied : (f : Flat) → is_flat f ≡ true → is_supplied (netlist_of f) ≡ true)
+    (netlist : List ℕ) (spelled : netlist ≡ layout (powered (flat_by a margin) ∷ [])) (table : HasTable (powered (flat_by a margin) ∷ [])) where
+  abbrev f : Flat
+  f = flat_by a margin
 
-  sound : IsSound (design_of a margin)
-  sound = is_sound inputs (design_of a margin) is.accepts.reads
+  abbrev written : ModuleView
+  written = powered f
 
-  reads : Reads netlist written
-  reads = subst (λ t. Reads t written) (sym spelled)
-      (reads_back written (well_formed inputs.netlist (design_of a margin) is.accepts.reads.fit.both.netlist.reads sound is.accepts.reads.intent.power_free is.accepts.reads.intent.gnd_free))
+  apart : bytes_eq a.intent.power a.intent.gnd ≡ false
+  apart = not-true (bytes_eq a.intent.power a.intent.gnd) is.accepts.all.intent.apart
+
+  single : is_single_module (source_of a) ≡ true
+  single = is.accepts.all.fit.both.single
+
+  fit : is_fit (cells_of a) (source_of a) ≡ true
+  fit = is.accepts.all.fit.fits
+
+  flat : is_flat f ≡ true
+  flat = fits_flat (cells_of a) (source_of a) a.intent.power a.intent.gnd margin single fit is.accepts.plain apart
+
+  good : IsWellFormed (written ∷ [])
+  good = well_formed (cells_of a) (source_of a) a.intent.power a.intent.gnd margin single fit apart is.power_visible is.gnd_visible
+
+  design : HasDesign inputs
+  design = record { cells = cells_of a; source = source_of a; intent = a.intent; accepts = is.accepts }
+
+  reads_same : Reads netlist (written ∷ [])
+  reads_same = subst (λ t. Reads t (written ∷ [])) (sym spelled) (back (written ∷ []) good table)
+
+  only : (other : List ModuleView) → Reads netlist other → other ≡ written ∷ []
+  only other o = alone (written ∷ []) other good table (subst (λ t. Reads t other) spelled o)
 
   pub promise : (report : List ℕ) → report ≡ report_text → IsWritten inputs margin netlist report
+  unfolding design
   promise report r = record {
-    design = design_of a margin;
-    accepts = is.accepts;
-    with_margin = refl;
+    design = design;
     written = written;
     implements = refl;
     spelled = spelled;
-    reads = reads;
-    only = λ other o. one_netlist netlist other written o reads;
-    supplied = supplied (design_of a margin) sound;
+    reads = reads_same;
+    only = only;
+    supplied = supplied f flat;
     reported = r;
   }
 
-  pub promise-headline : ((design : Design) → IsSound design → IsOrdered design → Headline design (powered design.cells design.intent design.source)) → HeadlineHolds inputs margin netlist
-  promise-headline theorem = record {
-    design = design_of a margin;
-    accepts = is.accepts;
-    with_margin = refl;
+  pub promise-headline : ((f : Flat) → is_flat f ≡ true → (order : List Key) → IsOrder keys (reads (design_of f)) order → Covers keys (reads (design_of f)) order → (events : List Event) (states : States) → RunsAlike (design_of f) (netlist_of f) (origin_of f) events states) → HeadlineHolds inputs margin netlist
+  unfolding design
+  promise-headline alike = record {
+    design = design;
     written = written;
-    reads = reads;
-    only = λ other o. one_netlist netlist other written o reads;
-    supplied = supplied (design_of a margin) sound;
-    headline = theorem (design_of a margin) sound is.ordered;
+    reads = reads_same;
+    only = only;
+    supplied = supplied f flat;
+    headline = λ events states. let o = is.ordered margin in alike f flat o.order o.is_order o.covers events states;
   }
 
--- the cells of an accepted design have different names
-pub accepted-differ : (inputs : Inputs) (a : Accepted) → ((margin : ℕ) → IsAccepted inputs a margin) → ((text : List ℕ) (cells : List Cell) → IsLibrary text cells → IsTrue (is_distinct (map (λ c. c.name) cells))) → IsTrue (is_distinct (map (λ c. c.name) a.cells))
-accepted-differ inputs a is differ = let l = (is 0).accepts.reads.fit.both.library in differ l.library a.cells l.denotes
+-- ---- the netlist that is written
+
+module _ (a : Accepted) (names : List (List ℕ)) (n : Netlist) (w : Module) (one : n.modules ≡ w ∷ []) where
+  pub view-is : (index : List Cell) (power gnd : List ℕ) → index ≡ a.library.cells → power ≡ a.intent.power → gnd ≡ a.intent.gnd
+      → ((margin : ℕ) → module_view names w ≡ powered (flat_of (map (cell_view a.names) index) (module_view a.names a.source) power gnd margin))
+      → (margin : ℕ) → netlist_view names n ≡ powered (flat_by a margin) ∷ []
+  view-is index power gnd ei ep eg made margin =
+      ap (map (module_view names)) one
+      ∙ ap (λ v. v ∷ []) (made margin ∙ (λ i. powered (flat_of (map (cell_view a.names) (ei i)) (module_view a.names a.source) (ep i) (eg i) margin)))
+
+  pub netlist-below : numbers_below (length names) (module_numbers w) ≡ true → numbers_below (length names) (netlist_numbers n) ≡ true
+  netlist-below h =
+      ap (λ ms. numbers_below (length names) (flat_map module_numbers ms)) one
+      ∙ ap (numbers_below (length names)) (append-nil (module_numbers w)) ∙ h
+
+-- ---- refusals
+
+module _ (inputs : Inputs) where
+  pub refused-by : (s : Stop) (r : Refusal) → r ≡ OfStop s → OrStop (IsAccepted inputs) (FirstFault inputs) (Err s) → RefusedBy inputs (Err r)
+  refused-by (stops.Fault line) r e h = subst (λ x. RefusedBy inputs (Err x)) (sym e) h
+  refused-by stops.NoMemory r e h = subst (λ x. RefusedBy inputs (Err x)) (sym e) tt
+
+  pub gives-fault : ((a b : List ℕ) → FirstFault inputs a → FirstFault inputs b → a ≡ b) → (s : Stop) (r : Refusal) → r ≡ OfStop s → OrStop (IsAccepted inputs) (FirstFault inputs) (Err s) → (line : List ℕ) → FirstFault inputs line → GivesFault line (Err r)
+  gives-fault one (stops.Fault l) r e h line x = subst (λ y. GivesFault line (Err y)) (sym e) (one l line h x)
+  gives-fault one stops.NoMemory r e h line x = subst (λ y. GivesFault line (Err y)) (sym e) tt
+
+  pub gives-texts : ((cells : List CellView) (m : ModuleView) (i : Intent) (line : List ℕ) → Accepts inputs cells m i → FirstFault inputs line → ⊥) → (s : Stop) (r : Refusal) → r ≡ OfStop s → OrStop (IsAccepted inputs) (FirstFault inputs) (Err s) → (cells : List CellView) (m : ModuleView) (i : Intent) → Accepts inputs cells m i → GivesTexts (Err r)
+  gives-texts none (stops.Fault l) r e h cells m i a = absurd (none cells m i l a h)
+  gives-texts none stops.NoMemory r e h cells m i a = subst (λ y. GivesTexts (Err y)) (sym e) tt

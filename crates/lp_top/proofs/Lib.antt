@@ -1,6 +1,4 @@
-pub mod AcceptingLaws
 pub mod DesignLaws
-pub mod FaultLaws
 pub mod InsertingLaws
 pub mod ReadingLaws
 pub mod RunningLaws

@@ -9,23 +9,21 @@ use Rattle.std.proofs.lemmas.Bool.{both_ways}
 use Rattle.std.proofs.lemmas.Slice.Eq.{bytes_eq-Decides}
 use Rattle.lp_text.specs.declared.shelf.ShelfFault.{ShelfFault}
 use Rattle.lp_text.specs.Shelf.{Files, Faults, LAST, count_up, Rises, content, with_said, SayHolds}
-use Rattle.lp_small.specs.declared.cell.Cell.{Cell}
-use Rattle.lp_small.specs.declared.netlist.Module.{Module}
+use Rattle.lp_model.specs.NetlistView.{ModuleView}
+use Rattle.lp_model.specs.LibraryView.{CellView}
 use Rattle.lp_small.specs.declared.intent.Intent.{Intent}
-use Rattle.lp_small.specs.Liberty.{IsLibrary}
-use Rattle.lp_small.specs.Verilog.{Reads}
-use Rattle.lp_small.specs.Upf.{IsIntent}
 use Rattle.lp_small.specs.Names.{Name}
-use Rattle.lp_top.proofs.FaultLaws.{one_fault, no_fault}
-use Rattle.lp_small_meaning.specs.Faults.{FirstFault}
-use Rattle.lp_small_meaning.specs.Promise.{HeadlineHolds}
+use Rattle.lp_insertion.specs.Inputs.{Inputs, Accepts}
+use Rattle.lp_insertion.specs.Faults.{FirstFault}
+use Rattle.lp_insertion.specs.Promise.{HeadlineHolds}
 use Rattle.lp_top.specs.declared.outcome.Outcome.{Outcome}
 use Rattle.lp_top.specs.declared.outcome.Outcome.TheVariants.{Done, Refused, TooLong, Usage, ReadFault, WriteFault, NoMemory}
 use Rattle.lp_top.specs.Reading.{count_more}
 use Rattle.lp_top.specs.Words.{CommandFiles, IsCommand, clashes, command_of, input_files, inputs_in}
 use Rattle.lp_top.proofs.WordsLaws.{command-again}
-use Rattle.lp_top.specs.Ran.{ByFiles, ByCause, ByCounts, ByMissed, OnlySay, IsKept, SaysCounts, SaysCalls, IsSteady, IsDone, Completes, Refuses, IsRefusal, NoFileFault, Texts, ByWords, Stores, HoldsTold, HoldsHeadline}
+use Rattle.lp_top.specs.Ran.{BySaid, SaysLine, ByFiles, ByCause, ByCounts, ByMissed, OnlySay, IsKept, SaysCounts, SaysCalls, IsSteady, IsDone, Completes, Refuses, IsRefusal, NoFileFault, Texts, ByWords, Stores, HoldsTold, HoldsHeadline}
 use Rattle.lp_top.specs.Inserting.{IsNoUsage}
+use Rattle.lp_top.specs.Outcomes.{line_of}
 
 -- the counts of the whole run
 counts-same : (old between new : Faults) (o : Outcome) → ByCause old between o → SaysCounts o between new → ByCounts old new o
@@ -60,6 +58,29 @@ counts-join old between new o (Usage u) a b k = counts-same old between new (Usa
 counts-join old between new o (ReadFault n) a b k = counts-same old between new (ReadFault n) (subst (ByCause old between) (sym k) a) (subst (λ x. SaysCounts x between new) (sym k) b)
 counts-join old between new o (WriteFault n) a b k = counts-same old between new (WriteFault n) (subst (ByCause old between) (sym k) a) (subst (λ x. SaysCounts x between new) (sym k) b)
 counts-join old between new o NoMemory a b k = tt
+
+-- what was said: the steps before it failed to say nothing
+same-say : (old between : Faults) (o : Outcome) → ByCause old between o → (o ≡ NoMemory → ⊥) → between.say ≡ old.say
+same-say old between Done a n = ap (λ x. x.say) a
+same-say old between (Refused f) a n = ap (λ x. x.say) a
+same-say old between (TooLong k) a n = a.2
+same-say old between (Usage u) a n = ap (λ x. x.say) a
+same-say old between (ReadFault k) a n = a.2
+same-say old between (WriteFault k) a n = a.2
+same-say old between NoMemory a n = absurd (n refl)
+
+says-line : (line : List ℕ) (before after : Option (List ℕ)) (old between new : Faults) → between.say ≡ old.say → SaysLine line before after between new → SaysLine line before after old new
+says-line line before after old between new e (inl h) = inl h
+says-line line before after old between new e (inr h) = inr (h.0, (h.1.0, subst (λ n. Rises n new.say) e h.1.1))
+
+pub said-join : (old between new : Faults) (before after : Option (List ℕ)) (o r : Outcome) → ByCause old between o → IsKept o r → BySaid before after between new r → BySaid before after old new r
+said-join old between new before after o Done a k h = h
+said-join old between new before after o (Refused f) a k h = says-line (line_of (Refused f)) before after old between new (same-say old between (Refused f) (subst (ByCause old between) (sym k) a) (λ e. let no : ⊥ = cc in no)) h
+said-join old between new before after o (TooLong n) a k h = says-line (line_of (TooLong n)) before after old between new (same-say old between (TooLong n) (subst (ByCause old between) (sym k) a) (λ e. let no : ⊥ = cc in no)) h
+said-join old between new before after o (Usage u) a k h = says-line (line_of (Usage u)) before after old between new (same-say old between (Usage u) (subst (ByCause old between) (sym k) a) (λ e. let no : ⊥ = cc in no)) h
+said-join old between new before after o (ReadFault n) a k h = says-line (line_of (ReadFault n)) before after old between new (same-say old between (ReadFault n) (subst (ByCause old between) (sym k) a) (λ e. let no : ⊥ = cc in no)) h
+said-join old between new before after o (WriteFault n) a k h = says-line (line_of (WriteFault n)) before after old between new (same-say old between (WriteFault n) (subst (ByCause old between) (sym k) a) (λ e. let no : ⊥ = cc in no)) h
+said-join old between new before after o NoMemory a k h = h
 
 -- what the files are after the line was said
 pub files-join : (c : CommandFiles) (old new : Option Files) (o r : Outcome) → ByFiles c old new o → IsKept o r → ByFiles c old new r
@@ -191,16 +212,15 @@ pub completes-kept : (c : CommandFiles) (old new : Option Files) (before after :
 completes-kept c old new before after o r f k n same = completes c old new before after r f k (kept IsNoUsage o r same n tt)
 
 -- inputs with a first fault are refused by it
-module _ (one_library : (text : List ℕ) (a b : List Cell) → IsLibrary text a → IsLibrary text b → a ≡ b)
-    (one_netlist : (text : List ℕ) (a b : Module) → Reads text a → Reads text b → a ≡ b)
-    (one_intent : (text : List ℕ) (a b : Intent) → IsIntent text a → IsIntent text b → a ≡ b) where
+module _ (one_fault : (inputs : Inputs) (a b : List ℕ) → FirstFault inputs a → FirstFault inputs b → a ≡ b)
+    (no_fault : (inputs : Inputs) (cells : List CellView) (m : ModuleView) (i : Intent) (line : List ℕ) → Accepts inputs cells m i → FirstFault inputs line → ⊥) where
   written_fault : (c : CommandFiles) (files : Files) (texts : Texts (Some files) c) (line : List ℕ) → FirstFault (inputs_in files c) line → ⊥
-  written_fault c files texts line x = no_fault (inputs_in files c) one_library one_netlist one_intent texts.written.design line texts.written.accepts x
+  written_fault c files texts line x = let d = texts.written.design in no_fault (inputs_in files c) d.cells d.source d.intent line d.accepts x
 
   refuses-told : (c : CommandFiles) (files : Files) (new : Option Files) (before after : Faults) (r : Outcome)
       → ByFiles c (Some files) new r → ByCounts before after r → IsNoUsage r → NoFileFault before after → (line : List ℕ) → FirstFault (inputs_in files c) line → IsRefusal line r
   refuses-told c files new before after Done f k n s line x = written_fault c files f.texts line x
-  refuses-told c files new before after (Refused l) f k n s line x = one_fault (inputs_in files c) one_library one_netlist one_intent l line f.1 x
+  refuses-told c files new before after (Refused l) f k n s line x = one_fault (inputs_in files c) l line f.1 x
   refuses-told c files new before after (TooLong m) f k n s line x = no_rise before.long s.long_low (subst (Rises before.long) s.long k.long)
   refuses-told c files new before after (Usage u) f k n s line x = n
   refuses-told c files new before after (ReadFault m) f k n s line x = no_rise before.read s.read_low (subst (Rises before.read) s.read k.read)

@@ -1,12 +1,12 @@
 -- The inputs of an insertion, and when it is refused.
 use Rattle.std.specs.Prelude.{◌≡◌, ℕ, List, Result, Ok, Err}
-use Rattle.lp_small_meaning.specs.Faults.{Inputs, FirstFault}
+use Rattle.lp_insertion.specs.Inputs.{Inputs}
+use Rattle.lp_insertion.specs.Faults.{FirstFault}
+use Rattle.lp_accept.specs.declared.stop.Stop.{Stop}
+use Rattle.lp_accept.specs.declared.stop.Stop.TheVariants as stops
 use Rattle.lp_top.specs.declared.design.Written.{Written}
 use Rattle.lp_top.specs.declared.design.Refusal.{Refusal}
 use Rattle.lp_top.specs.declared.design.Refusal.TheVariants as refusals
-
-abbrev pub inputs_of : List (List ℕ) → List ℕ → List ℕ → Inputs
-inputs_of libraries netlist intent = record { libraries = libraries; netlist = netlist; intent = intent }
 
 -- a fault is the first one of the inputs
 abbrev pub RefusedBy : Inputs → Result Written Refusal → Type 0
@@ -25,3 +25,8 @@ abbrev pub GivesTexts : Result Written Refusal → Type 0
 GivesTexts (Ok w) = Unit {0}
 GivesTexts (Err (refusals.Fault l)) = ⊥
 GivesTexts (Err refusals.NoMemory) = Unit {0}
+
+-- the refusal for a stop
+abbrev pub OfStop : Stop → Refusal
+OfStop (stops.Fault line) = refusals.Fault line
+OfStop stops.NoMemory = refusals.NoMemory

@@ -5,11 +5,11 @@ use Rattle.lp_text.specs.Shelf.{Files, with_file}
 use Rattle.lp_text.specs.declared.shelf.ShelfFault.{ShelfFault}
 use Rattle.lp_text.specs.declared.shelf.ShelfFault.TheVariants as causes
 use Rattle.lp_small.specs.Names.{Name}
-use Rattle.lp_small_meaning.specs.Faults.{Inputs}
+use Rattle.lp_insertion.specs.Inputs.{Inputs}
 use Rattle.lp_top.specs.declared.reading.ReadStop.{ReadStop}
 use Rattle.lp_top.specs.declared.outcome.Outcome.{Outcome}
 use Rattle.lp_top.specs.declared.outcome.Outcome.TheVariants.{Done, TooLong, Usage, ReadFault, WriteFault, NoMemory}
-use Rattle.lp_top.specs.Design.{inputs_of}
+use Rattle.lp_accept.specs.Inputs.{inputs_of}
 use Rattle.lp_top.specs.Reading.{count_more}
 use Rattle.lp_top.specs.Words.{CommandFiles}
 use Rattle.lp_top.specs.Ran.{file_number, HoldsPart}

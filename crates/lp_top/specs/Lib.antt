@@ -1,4 +1,3 @@
-pub mod Accepting
 pub mod Design
 pub mod Inserting
 pub mod Outcomes

@@ -3,7 +3,7 @@ use Rattle.std.specs.Prelude.{◌≡◌, Bool, ◌||◌, nat_lt, List, [], ◌�
 use Rattle.lp_text.specs.Shelf.{Files, content}
 use Rattle.lp_token.specs.Tokens.{is_filled}
 use Rattle.lp_small.specs.Names.{Name, has_name}
-use Rattle.lp_small_meaning.specs.Faults.{Inputs}
+use Rattle.lp_insertion.specs.Inputs.{Inputs}
 use Rattle.lp_top.specs.declared.words.Command.{Command}
 
 -- the names of a command's files

@@ -1,24 +1,31 @@
-ghost use Rattle.std.specs.Prelude.{◌≡◌, ℕ, ◌≤◌, ◌^◌, List, length, map, IfOk, IsTrue};
-ghost use Rattle.lp_small.specs.Names.{is_distinct};
-ghost use Rattle.lp_small.specs.Layout.{layout};
-ghost use Rattle.lp_small_meaning.specs.Written.{powered, report_text};
-ghost use Rattle.lp_small_meaning.specs.Promise.{IsWritten, HeadlineHolds};
-ghost use Rattle.lp_small_meaning.specs.Faults.{FirstFault, Accepts};
-ghost use Rattle.lp_small_meaning.specs.Intent.{Design};
-ghost use Rattle.lp_top.specs.Design.{inputs_of, RefusedBy, GivesFault, GivesTexts};
+ghost use Rattle.std.specs.Prelude.{◌≡◌, ℕ, ◌≤◌, ◌^◌, [], ◌∷◌, List, length, IfOk, true};
+ghost use Rattle.std.specs.List.{list_all};
+ghost use Rattle.lp_model.specs.Agreement.{numbers_below};
+ghost use Rattle.lp_model.specs.LibraryView.{CellView, library_numbers};
+ghost use Rattle.lp_model.specs.NetlistView.{ModuleView, module_numbers};
+ghost use Rattle.lp_flat.specs.Netlists.{powered};
+ghost use Rattle.lp_verilog_tokens.specs.Lexical.{is_visible};
+ghost use Rattle.lp_vwrite.specs.Layout.{layout};
+ghost use Rattle.lp_vwrite.specs.WellFormed.{HasTable};
+ghost use Rattle.lp_small.specs.declared.intent.Intent.{Intent};
+ghost use Rattle.lp_insertion.specs.Inputs.{Accepts};
+ghost use Rattle.lp_insertion.specs.Faults.{FirstFault};
+ghost use Rattle.lp_insertion.specs.Promise.{IsWritten, HeadlineHolds, report_text};
+ghost use Rattle.lp_accept.specs.Inputs.{inputs_of};
+ghost use Rattle.lp_accept.specs.Judged.{flat_by};
+ghost use Rattle.lp_top.specs.Design.{RefusedBy, GivesFault, GivesTexts, OfStop};
 
-use crate::accepting::{Accepted, accept};
-use lp_small::{Cell, Intent, Module};
-use lp_small_cells::CellIndex;
-use lp_small_liberty::one_library;
-use lp_small_meaning::{
-    accepted_cells_differ, accepted_is_sound, headline as theorem, supplied, well_formed,
-};
-use lp_small_pg::connect_all;
-use lp_small_upf::one_intent;
-use lp_small_verilog::one_netlist;
-use lp_small_vwrite::{reads_back, write_netlist};
+use lp_accept::{Accepted, Stop, accept};
+use lp_flat::{flat_netlist_is_supplied, flat_runs_alike};
+use lp_index::CellIndex;
+use lp_insertion::{no_fault, one_fault};
+use lp_joins::{connect_all, powered_is_well_formed};
+use lp_model::Netlist;
+use lp_single::fits_are_flat;
 use lp_text::{Bytes, NoMemory};
+use lp_verilog_tokens::text_of;
+use lp_vwrite::{numbered_has_table, reads_back, write_netlist};
+use sqlite_items::Items;
 use std::alloc::Global;
 use std::marker::Model;
 
@@ -89,34 +96,57 @@ fn report(alloc: Global) -> Result<Bytes, NoMemory>
     )
 }
 
-/// The text of a source with its supplies.
-fn powered_text(
-    alloc: Global,
-    cells: &[Cell],
-    intent: &Intent,
-    source: Module,
-) -> Result<Bytes, NoMemory>
-    requires { IsTrue (is_distinct (map (λ c. c.name) cells.now)) }
-    ensures { IfOk result (λ b. b ≡ layout (powered cells.now intent.now source)) }
+/// The text of the source of a design with its supplies.
+fn powered_text(alloc: Global, accepted: Accepted) -> Result<Bytes, NoMemory>
+    requires cells { numbers_below (length accepted.names) (library_numbers accepted.library) ≡ true }
+    requires source { numbers_below (length accepted.names) (module_numbers accepted.source) ≡ true }
+    requires few_names { length accepted.names ≤ 1140850689 }
+    requires few_cells { length accepted.library.cells ≤ 1140850689 }
+    requires power { list_all is_visible accepted.intent.power ≡ true }
+    requires ground { list_all is_visible accepted.intent.gnd ≡ true }
+    ensures laid { IfOk result (λ b. (margin : ℕ) → b ≡ layout (powered (flat_by accepted margin) ∷ [])) }
+    ensures table { IfOk result (λ b. (margin : ℕ) → HasTable (powered (flat_by accepted margin) ∷ [])) }
 {
-    let index = CellIndex::new(alloc, cells)?;
-    let netlist = connect_all(alloc, &index, intent, source)?;
-    let text = write_netlist(alloc, &netlist)?;
-    Ok(Bytes::new(text))
+    numbered_has_table();
+    let Accepted {
+        mut names,
+        library,
+        source,
+        intent,
+    } = accepted;
+    let index = CellIndex::new(alloc, names.count(), library.cells.as_slice())?;
+    let power = text_of(intent.power.all());
+    let gnd = text_of(intent.gnd.all());
+    let written = connect_all(alloc, &index, &mut names, source, power, gnd)?;
+    let mut modules = Items::new(alloc);
+    modules.push(written)?;
+    let _ = names.count();
+    write_netlist(alloc, &names, &Netlist { modules })
+}
+
+/// The refusal of inputs that give no design.
+fn refused_by(stop: Stop) -> Refusal
+    ensures { result ≡ OfStop stop }
+{
+    match stop {
+        Stop::Fault(line) => Refusal::Fault(Fault::new(line)),
+        Stop::NoMemory => Refusal::NoMemory,
+    }
 }
 
 /// The two texts of a design without fault.
 fn write(alloc: Global, accepted: Accepted) -> Result<Written, NoMemory>
-    requires { IsTrue (is_distinct (map (λ c. c.name) accepted.cells)) }
-    ensures netlist { IfOk result (λ w. w.netlist ≡ layout (powered accepted.cells accepted.intent accepted.source)) }
+    requires cells { numbers_below (length accepted.names) (library_numbers accepted.library) ≡ true }
+    requires source { numbers_below (length accepted.names) (module_numbers accepted.source) ≡ true }
+    requires few_names { length accepted.names ≤ 1140850689 }
+    requires few_cells { length accepted.library.cells ≤ 1140850689 }
+    requires power { list_all is_visible accepted.intent.power ≡ true }
+    requires ground { list_all is_visible accepted.intent.gnd ≡ true }
+    ensures laid { IfOk result (λ w. (margin : ℕ) → w.netlist ≡ layout (powered (flat_by accepted margin) ∷ [])) }
+    ensures table { IfOk result (λ w. (margin : ℕ) → HasTable (powered (flat_by accepted margin) ∷ [])) }
     ensures report { IfOk result (λ w. w.report ≡ report_text) }
 {
-    let Accepted {
-        cells,
-        source,
-        intent,
-    } = accepted;
-    let netlist = powered_text(alloc, cells.as_slice(), &intent, source)?;
+    let netlist = powered_text(alloc, accepted)?;
     let report = report(alloc)?;
     Ok(Written { netlist, report })
 }
@@ -142,22 +172,20 @@ pub fn insert_design(
     ensures refused { RefusedBy (inputs_of libs.now netlist.now upf.now) result }
     // Inputs with a first fault are refused by it, and others are accepted, memory aside.
     ensures exact { (line : List ℕ) → FirstFault (inputs_of libs.now netlist.now upf.now) line → GivesFault line result }
-    ensures complete { (design : Design) → Accepts (inputs_of libs.now netlist.now upf.now) design → GivesTexts result }
+    ensures complete { (cells : List CellView) (m : ModuleView) (i : Intent) → Accepts (inputs_of libs.now netlist.now upf.now) cells m i → GivesTexts result }
 {
-    accepted_is_sound();
-    accepted_cells_differ();
-    theorem();
-    supplied();
-    well_formed();
+    fits_are_flat();
+    flat_runs_alike();
+    flat_netlist_is_supplied();
+    powered_is_well_formed();
     reads_back();
-    one_library();
-    one_netlist();
-    one_intent();
+    one_fault();
+    no_fault();
     match accept(alloc, libs, netlist, upf) {
         Ok(accepted) => match write(alloc, accepted) {
             Ok(written) => Ok(written),
             Err(NoMemory) => Err(Refusal::NoMemory),
         },
-        Err(refusal) => Err(refusal),
+        Err(stop) => Err(refused_by(stop)),
     }
 }

@@ -1,7 +1,6 @@
 //! The top call: from words and files to the written netlist, with the theorem.
 #![tactic(auto)]
 
-mod accepting;
 mod design;
 mod inserting;
 mod outcome;

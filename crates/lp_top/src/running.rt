@@ -7,9 +7,7 @@ ghost use Rattle.lp_top.specs.Words.{CommandFiles, IsCommand, clashes};
 use crate::inserting::attempt;
 use crate::outcome::{Outcome, UsageFault};
 use crate::parsing::{command, has_clash};
-use lp_small_liberty::one_library;
-use lp_small_upf::one_intent;
-use lp_small_verilog::one_netlist;
+use lp_insertion::{no_fault, one_fault};
 use lp_text::{NoMemory, Shelf, ShelfFault, Word};
 use std::alloc::Global;
 
@@ -105,9 +103,8 @@ pub fn run<S: Shelf>(alloc: Global, words: &[Word], shelf: &mut S) -> Outcome
     // The theorem, on the bytes that are held under the name of the netlist.
     ensures headline { (c : CommandFiles) → IsCommand words.now c → clashes c ≡ false → HoldsHeadline c (S.held shelf.old) (S.held shelf.new) result }
 {
-    one_library();
-    one_netlist();
-    one_intent();
+    one_fault();
+    no_fault();
     let command = match command(words) {
         Some(command) => command,
         None => return tell(alloc, shelf, Outcome::Usage(UsageFault::Form)),

@@ -133,7 +133,15 @@ fn refuses_by_the_first_fault(rt: HostRuntime) -> Result<(), Fail> {
             "",
             "F13 UnknownModule t g",
         ),
-        ("", "  assign y = a;\n", "", "F99 NotYet 3"),
+        ("", "  assign y = a;\n", "", "F99 NotYet 4"),
+        ("", "  assign y = ;\n", "", "F10 Syntax 4:14"),
+        ("", "  wire a, a;\n", "", "F12 DuplicateName 4:11 a"),
+        (
+            "",
+            "  AND2 g (.A(1'bx), .B(b), .Y(y));\n",
+            "",
+            "F11 Unsupported 4:14 1'bx",
+        ),
         ("", "  AND2 g (.A(a), .Y(y));\n", "", "F99 NotYet 4"),
         (
             "",
@@ -144,7 +152,7 @@ fn refuses_by_the_first_fault(rt: HostRuntime) -> Result<(), Fail> {
         ("", "  t g (.A(a), .B(b), .Y(y));\n", "", "F99 NotYet 4"),
         ("", "  AND2 g (.A(a), .B(b), .Y(y));\n", "#", "F99 NotYet 5"),
         ("", "  AND2 g (.A(a), .B(y), .Y(y));\n", "", "F99 NotYet 7"),
-        ("/* */", "  assign y = a;\n", "#", "F99 NotYet 2"),
+        ("}", "  assign y = ;\n", "#", "F01 Syntax 10 1:1"),
         (
             "",
             "  OR9 g (.A(a), .B(b), .Y(y));\n",
@@ -224,7 +232,7 @@ fn reads_the_words_in_their_order(rt: HostRuntime) -> Result<(), Fail> {
     let cases = [
         (short.as_slice(), 2, "lpinsert: usage form\n"),
         (same.as_slice(), 2, "lpinsert: usage files\n"),
-        (twice.as_slice(), 1, "lpinsert: F99 NotYet 2\n"),
+        (twice.as_slice(), 1, "lpinsert: F03 DuplicateCell AND2\n"),
     ];
     for (texts, wanted, line) in cases {
         let ran = run_on(rt.alloc(), &[], [NETLIST, INTENT, LIBRARY], texts)?;

@@ -3,9 +3,9 @@ use Rattle.std.proofs.lemmas.Bool.{both_ways}
 use Rattle.lp_top.specs.declared.outcome.Outcome.TheVariants as outcomes
 use Rattle.lp_top.specs.declared.outcome.UsageFault.TheVariants as usages
 use Rattle.lp_top.specs.Words.{IsCommand, clashes, files_of}
-use Rattle.lp_top.specs.Ran.{ByWords, ByFiles, ByMissed}
+use Rattle.lp_top.specs.Ran.{ByWords, ByFiles, ByMissed, BySaid}
 use Rattle.lp_top.proofs.WordsLaws.{command-found}
-use Rattle.lp_top.proofs.RunningLaws.{kept, words-good, same_command, no_command, counts-join, files-join, missed-join, completes-kept, refuses, headline-files}
+use Rattle.lp_top.proofs.RunningLaws.{kept, words-good, same_command, no_command, counts-join, said-join, files-join, missed-join, completes-kept, refuses, headline-files}
 use Rattle.lp_top.proofs.running.run.Goals as goal
 
 pub returns-in-None-clause-words : goal.returns-in-None-clause-words
@@ -45,6 +45,15 @@ returns-clause-counts g c =
     counts-join (g.S.Shelf.faults c.args.shelf.now) (g.S.Shelf.faults c.attempt-outcome.new.shelf) (g.S.Shelf.faults c.tell-2.new.shelf) c.attempt-outcome.result c.tell-2.result
     c.attempt-outcome.ensures.counts c.tell-2.ensures.counts c.tell-2.ensures.kept
 
+pub returns-clause-said : goal.returns-clause-said
+returns-clause-said g c =
+    let faults = g.S.Shelf.faults c.tell-2.new.shelf in
+    let between = g.S.Shelf.faults c.attempt-outcome.new.shelf in
+    let said = g.S.Shelf.said c.tell-2.new.shelf in
+    said-join (g.S.Shelf.faults c.args.shelf.now) between faults (g.S.Shelf.said c.args.shelf.now) said c.attempt-outcome.result c.tell-2.result
+    c.attempt-outcome.ensures.counts c.tell-2.ensures.kept
+    (subst (λ s. BySaid s said between faults c.tell-2.result) c.attempt-outcome.ensures.keeps_said c.tell-2.ensures.said)
+
 pub returns-clause-misses : goal.returns-clause-misses
 returns-clause-misses g c b is apart =
     let same : files_of c.in-Some.command ≡ b = same_command c.args.words.now (files_of c.in-Some.command) b (sym c.in-Some.ensures) is in
@@ -72,5 +81,5 @@ returns-then-has_clash-clause-exact g c b is apart =
 
 pub returns-clause-exact : goal.returns-clause-exact
 returns-clause-exact g c b is apart =
-    refuses c.one_library.ensures c.one_netlist.ensures c.one_intent.ensures b (g.S.Shelf.held c.args.shelf.now) (g.S.Shelf.held c.tell-2.new.shelf) (g.S.Shelf.faults c.args.shelf.now) (g.S.Shelf.faults c.tell-2.new.shelf) c.attempt-outcome.result c.tell-2.result
+    refuses c.one_fault.ensures c.no_fault.ensures b (g.S.Shelf.held c.args.shelf.now) (g.S.Shelf.held c.tell-2.new.shelf) (g.S.Shelf.faults c.args.shelf.now) (g.S.Shelf.faults c.tell-2.new.shelf) c.attempt-outcome.result c.tell-2.result
     (returns-clause-files g c b is apart) (returns-clause-counts g c) c.attempt-outcome.ensures.no_usage c.tell-2.ensures.kept

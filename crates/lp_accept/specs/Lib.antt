@@ -1,0 +1,4 @@
+pub mod Inputs
+pub mod Stages
+pub mod Read
+pub mod Judged

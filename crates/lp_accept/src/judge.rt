@@ -1,0 +1,154 @@
+ghost use Rattle.std.specs.Prelude.{◌≡◌, ◌≤◌, ◌+◌, [], ◌∷◌, length, map, nat_lt, true};
+ghost use Rattle.std.specs.List.{flat_map};
+ghost use Rattle.lp_text.specs.Texts.{text_at};
+ghost use Rattle.lp_model.specs.Agreement.{numbers_below};
+ghost use Rattle.lp_model.specs.LibraryView.{cell_view, cell_numbers};
+ghost use Rattle.lp_model.specs.NetlistView.{module_view, netlist_view, module_numbers, netlist_numbers};
+ghost use Rattle.lp_small.specs.Upf.{IsIntent};
+ghost use Rattle.lp_single.specs.Single.{is_single_module};
+ghost use Rattle.lp_insertion.specs.Faults.{not_yet as line_not_yet, unknown_module as line_unknown};
+ghost use Rattle.lp_accept.specs.Stages.{IsLine, OrStop};
+ghost use Rattle.lp_accept.specs.Judged.{IsOne, IsNotOne, Fitting, Misfits, NoIntent, Sound, Unsound, Judged, Unjudged};
+
+use crate::plain::are_plain;
+use crate::stop::{Stop, stop_at};
+use lp_fits::{is_fit, is_single, unknown_target};
+use lp_index::CellIndex;
+use lp_loops::has_loop;
+use lp_model::{Cell, DesignFault, Fault, Instance, InstanceRef, Module, Netlist, NetlistFault};
+use lp_small::Intent;
+use lp_small_upf::read_intent;
+use lp_text::Names;
+use std::alloc::Global;
+
+/// The stop at a form that is not built yet, by the number of the work that lifts it.
+fn not_yet(alloc: Global, names: &Names, k: u32) -> Stop
+    ensures { IsLine (line_not_yet k) result }
+{
+    stop_at(alloc, names, &Fault::NotYet(k))
+}
+
+/// The stop at an instance without a target.
+fn unknown(alloc: Global, names: &Names, source: &Module, instance: &Instance) -> Stop
+    ensures { IsLine (line_unknown (text_at names.now source.now.name.0) (text_at names.now instance.now.name.0)) result }
+{
+    let at = InstanceRef {
+        parent: source.name,
+        instance: instance.name,
+    };
+    let fault = Fault::Design(DesignFault::Netlist(NetlistFault::UnknownModule { at }));
+    stop_at(alloc, names, &fault)
+}
+
+/// The one module of a netlist of the form that is taken.
+pub(crate) fn one_module(alloc: Global, names: &Names, netlist: Netlist) -> Result<Module, Stop>
+    requires { numbers_below (length names.now) (netlist_numbers netlist) ≡ true }
+    ensures gives { OrStop (λ m. IsOne (netlist_view names.now netlist) (module_view names.now m) × (numbers_below (length names.now) (module_numbers m) ≡ true)) (IsNotOne (netlist_view names.now netlist)) result }
+{
+    if !is_single(names, &netlist) {
+        return Err(not_yet(alloc, names, 4));
+    }
+    let mut modules = netlist.modules;
+    match modules.pop() {
+        Some(source) => Ok(source),
+        None => unreachable!(),
+    }
+}
+
+/// Whether there are more nets than names: then some name stands twice.
+fn has_more_nets(names: &Names, source: &Module) -> bool
+    ensures { result ≡ nat_lt (length names.now) (length source.now.ports + length source.now.nets) }
+{
+    let count = names.count() as usize;
+    match count.checked_sub(source.ports.len()) {
+        Some(left) => left < source.nets.len(),
+        None => true,
+    }
+}
+
+/// Whether a module fits the cells.
+fn check_fit(
+    alloc: Global,
+    index: &CellIndex<'_>,
+    names: &Names,
+    source: &Module,
+) -> Result<(), Stop>
+    requires cells { numbers_below (length names.now) (flat_map cell_numbers index.now) ≡ true }
+    requires source { numbers_below (length names.now) (module_numbers source.now) ≡ true }
+    requires single { is_single_module (module_view names.now source.now) ≡ true }
+    requires few { length names.now ≤ 1140850689 }
+    ensures { OrStop (λ _. Fitting (map (cell_view names.now) index.now) (module_view names.now source.now)) (Misfits (map (cell_view names.now) index.now) (module_view names.now source.now)) result }
+{
+    if let Some(instance) = unknown_target(index, names, source) {
+        return Err(unknown(alloc, names, source, instance));
+    }
+    if has_more_nets(names, source) || !is_fit(alloc, index, names, source)? {
+        return Err(not_yet(alloc, names, 4));
+    }
+    Ok(())
+}
+
+/// The intent of a text.
+fn read_power(alloc: Global, names: &Names, bytes: &[u8]) -> Result<Intent, Stop>
+    ensures { OrStop (IsIntent bytes.now) (NoIntent bytes.now) result }
+{
+    match read_intent(alloc, bytes)? {
+        Some(intent) => Ok(intent),
+        None => Err(not_yet(alloc, names, 5)),
+    }
+}
+
+/// Whether the cells of a module are lost exactly where their one supply is not on, and no node depends on itself.
+fn check_sound(
+    alloc: Global,
+    index: &CellIndex<'_>,
+    names: &Names,
+    source: &Module,
+) -> Result<(), Stop>
+    requires cells { numbers_below (length names.now) (flat_map cell_numbers index.now) ≡ true }
+    requires source { numbers_below (length names.now) (module_numbers source.now) ≡ true }
+    requires single { is_single_module (module_view names.now source.now) ≡ true }
+    requires fits { Fitting (map (cell_view names.now) index.now) (module_view names.now source.now) }
+    requires few { length names.now ≤ 1140850689 }
+    ensures { OrStop (λ _. Sound (map (cell_view names.now) index.now) (module_view names.now source.now)) (Unsound (map (cell_view names.now) index.now) (module_view names.now source.now)) result }
+{
+    let plain = are_plain(alloc, index, names, source)?;
+    if !plain {
+        return Err(not_yet(alloc, names, 7));
+    }
+    let looped = has_loop(alloc, index, names, source)?;
+    if looped {
+        return Err(not_yet(alloc, names, 7));
+    }
+    Ok(())
+}
+
+/// The intent of a module that fits the cells and has no loop.
+pub(crate) fn judge(
+    alloc: Global,
+    names: &Names,
+    cells: &[Cell],
+    source: &Module,
+    upf: &[u8],
+) -> Result<Intent, Stop>
+    requires cells { numbers_below (length names.now) (flat_map cell_numbers cells.now) ≡ true }
+    requires source { numbers_below (length names.now) (module_numbers source.now) ≡ true }
+    requires single { is_single_module (module_view names.now source.now) ≡ true }
+    requires few { length names.now ≤ 1140850689 }
+    requires few_cells { length cells.now ≤ 1140850689 }
+    ensures { OrStop (Judged (map (cell_view names.now) cells.now) (module_view names.now source.now) upf.now) (Unjudged (map (cell_view names.now) cells.now) (module_view names.now source.now) upf.now) result }
+{
+    let index = CellIndex::new(alloc, names.count(), cells)?;
+    match check_fit(alloc, &index, names, source) {
+        Ok(()) => {}
+        Err(stop) => return Err(stop),
+    }
+    let intent = match read_power(alloc, names, upf) {
+        Ok(intent) => intent,
+        Err(stop) => return Err(stop),
+    };
+    match check_sound(alloc, &index, names, source) {
+        Ok(()) => Ok(intent),
+        Err(stop) => Err(stop),
+    }
+}

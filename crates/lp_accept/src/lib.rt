@@ -1,0 +1,12 @@
+//! The design of the texts of an insertion, or their first fault.
+#![tactic(auto)]
+
+mod accepted;
+mod judge;
+mod libraries;
+mod netlist;
+mod plain;
+mod stop;
+
+pub use accepted::{Accepted, accept};
+pub use stop::Stop;

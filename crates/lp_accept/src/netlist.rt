@@ -1,0 +1,32 @@
+ghost use Rattle.std.specs.Prelude.{◌≡◌, ◌≤◌, ◌+◌, length, IfOk};
+ghost use Rattle.lp_text.specs.Texts.{Grown};
+ghost use Rattle.lp_insertion.specs.Faults.{IsRefused};
+ghost use Rattle.lp_accept.specs.Stages.{OrStop};
+ghost use Rattle.lp_accept.specs.Read.{IsModules};
+
+use crate::stop::{Stop, stop_at};
+use lp_model::{Netlist, Refusal};
+use lp_text::Names;
+use lp_verilog::{numbers_stand, read_netlist};
+use std::alloc::Global;
+
+/// The modules of a netlist text.
+pub(crate) fn read_modules(alloc: Global, names: &mut Names, bytes: &[u8]) -> Result<Netlist, Stop>
+    requires { length names.old ≤ 1073741825 }
+    ensures gives { OrStop (IsModules names.new bytes.now) (IsRefused bytes.now) result }
+    ensures short { IfOk result (λ n. length names.new ≤ 1140850689) }
+    ensures grown { Grown names.old names.new }
+{
+    numbers_stand();
+    match read_netlist(alloc, names, bytes) {
+        Ok(netlist) => {
+            let _ = names.count();
+            Ok(netlist)
+        }
+        Err(Refusal::Fault(fault)) => {
+            let _ = names.count();
+            Err(stop_at(alloc, names, &fault))
+        }
+        Err(Refusal::NoMemory) => Err(Stop::NoMemory),
+    }
+}

@@ -1,0 +1,7 @@
+mod Growing
+mod Singles
+mod Lists
+mod Cells
+mod Sources
+mod Modules
+mod Fitting

@@ -1,0 +1,19 @@
+//! Which netlists are taken, and when they fit the cells of the libraries.
+#![tactic(auto)]
+
+mod distinct;
+mod fit;
+mod joined;
+mod module;
+mod names;
+mod nets;
+mod single;
+mod taken;
+mod targets;
+
+pub use fit::is_fit;
+pub use single::is_single;
+pub use targets::unknown_target;
+
+#[cfg(test)]
+mod tests;

@@ -1,0 +1,38 @@
+//! Laws about the definitions alone: each is the clause of a function that does nothing.
+ghost use Rattle.std.specs.Prelude.{◌≡◌, ℕ, List};
+ghost use Rattle.lp_model.specs.NetlistView.{ModuleView};
+ghost use Rattle.lp_model.specs.LibraryView.{CellView};
+ghost use Rattle.lp_small.specs.declared.intent.Intent.{Intent};
+ghost use Rattle.lp_insertion.specs.Inputs.{Inputs, Accepts};
+ghost use Rattle.lp_insertion.specs.Faults.{FirstFault};
+
+use lp_cells::one_library;
+use lp_liberty::{one_answer, one_list_of_groups};
+use lp_small_upf::one_intent;
+use lp_verilog::{one_line, one_netlist, refused_reads_nothing};
+
+/// Inputs have at most one first fault.
+pub fn one_fault()
+    ensures { (inputs : Inputs) (a b : List ℕ) → FirstFault inputs a → FirstFault inputs b → a ≡ b }
+{
+    one_answer();
+    one_list_of_groups();
+    one_library();
+    one_line();
+    one_netlist();
+    refused_reads_nothing();
+    one_intent();
+}
+
+/// Inputs that are accepted have no fault.
+pub fn no_fault()
+    ensures { (inputs : Inputs) (cells : List CellView) (m : ModuleView) (i : Intent) (line : List ℕ) → Accepts inputs cells m i → FirstFault inputs line → ⊥ }
+{
+    one_answer();
+    one_list_of_groups();
+    one_library();
+    one_line();
+    one_netlist();
+    refused_reads_nothing();
+    one_intent();
+}

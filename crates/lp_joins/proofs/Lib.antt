@@ -1,0 +1,4 @@
+pub mod Middle
+pub mod Powered
+pub mod Views
+pub mod Below

@@ -1,3 +1,0 @@
-pub mod Productions
-pub mod Reading
-pub mod View

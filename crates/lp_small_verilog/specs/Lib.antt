@@ -1,4 +1,0 @@
-pub mod Checks
-pub mod Gives
-pub mod Reading
-pub mod Reserved

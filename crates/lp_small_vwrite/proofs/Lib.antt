@@ -1,5 +1,0 @@
-pub mod Declared
-pub mod Listed
-pub mod Names
-pub mod Spelled
-pub mod Tree
