@@ -614,7 +614,7 @@ module _ (after : ℕ → Token → ℕ) where
       let u : Reader = record (on rest m) { declaring = record m.declaring { range = Some (record { left = m.declaring.left; right = bound.0 }) } } in
       let kept : State n u = record { names = s.names; modules = s.modules; left = s.left; range = and_from (is_small m.declaring.left) (is_small bound.0) s.left bound.1; subject = s.subject } in
       first k b t (on (symbols.RightBound ∷ rest) m) u refl bound.1 refl
-      (finish rest (after k t) n b u h.2 kept (calm_ready rest u.value h.0) bound.2 (room_same n b symbols.RightBound rest room)).led
+      (finish rest (after k t) n b u h.3 kept (calm_ready rest u.value h.1) bound.2 (room_same n b symbols.RightBound rest room)).led
   finish (symbols.Items ∷ rest) k n b m h s r d room =
       items (lacking_count m.draft.scope) k n b rest m refl s (start_room n b rest (room_same n b symbols.Items rest room))
       (λ at u kept. finish rest at n b u h.2 kept (calm_ready rest u.value h.1) (directed_plain u.declaring rest u.draft.scope h.0) (room_same n b symbols.Items rest room))

@@ -94,7 +94,10 @@ module _ (names : List (List ℕ)) (text : List ℕ) (clean : Clean names (lengt
         },
       )
 
-  -- other texts with the same tokens come to the same state
+-- ---- other texts with the same tokens
+
+module _ (names : List (List ℕ)) (text : List ℕ) (apart : distinct names ≡ true) (few : length names ≤ 4294967295) where
+  -- they come to the same state
   pub record Elsewhere (rest2 : List ℕ) (m2 : Reader) (ys : List Piece) : Type 0 where
     pub table : List (List ℕ)
     pub ρ : ℕ → ℕ
@@ -103,21 +106,20 @@ module _ (names : List (List ℕ)) (text : List ℕ) (clean : Clean names (lengt
     pub past : Past table (length text) (rd ρ m2) rest2 size2 ys (Whole modules)
     pub steps : (l : Lexeme) (at : ℕ) (f : Off) → is_known names l ≡ true → step (numbered names l) at m2 ≡ Stops f → step (numbered table l) at (rd ρ m2) ≡ Stops (off ρ f)
 
-  elsewhere : (front : List Piece) (fresh2 : Bool) (rest2 : List ℕ) (m2 : Reader) (ys : List Piece) → Through names (length text) front true text start fresh2 rest2 m2 → IsNetlist (front ++ ys) → Elsewhere rest2 m2 ys
+  pub elsewhere : (front : List Piece) (fresh2 : Bool) (rest2 : List ℕ) (m2 : Reader) (ys : List Piece) → Through names (length text) front true text start fresh2 rest2 m2 → IsNetlist (front ++ ys) → Elsewhere rest2 m2 ys
   elsewhere front fresh2 rest2 m2 ys through k =
       let reads = k.reads in
       let all = names ++ reads.names in
       let mine = renumber names all in
       let theirs = renumber reads.names all in
       let other = k.text in
-      let few = clean.few in
       let moved = moved_from_start reads.names all reads.apart (covers_right names reads.names) (length other) reads.denotes.tokens other (Whole reads.modules) reads.denotes.leads in
-      let starts : rd theirs start ≡ rd mine start = begun reads.names all reads.few ∙ sym (begun names all (omega (arith, few, short))) in
+      let starts : rd theirs start ≡ rd mine start = begun reads.names all reads.few ∙ sym (begun names all few) in
       let cut : Cuts reads.denotes.tokens true other = leads_cut reads.names (length other) reads.denotes.tokens true other start reads.modules reads.denotes.leads in
       let tokens : reads.denotes.tokens ≡ front ++ ys = one_cut reads.denotes.tokens (front ++ ys) true other cut k.cuts in
       let there = subst (λ m. Leads all (length other) reads.denotes.tokens true other m (oc theirs (Whole reads.modules))) starts moved in
       let leads = subst (λ ts. Leads all (length other) ts true other (rd mine start) (oc theirs (Whole reads.modules))) tokens there in
-      let through2 = moved_through names all clean.apart (covers_left names reads.names) (length text) front true text start fresh2 rest2 m2 through in
+      let through2 = moved_through names all apart (covers_left names reads.names) (length text) front true text start fresh2 rest2 m2 through in
       record {
         table = all;
         ρ = mine;
@@ -125,8 +127,8 @@ module _ (names : List (List ℕ)) (text : List ℕ) (clean : Clean names (lengt
         modules = map (md theirs) reads.modules;
         past = past all (length text) front true text (rd mine start) fresh2 rest2 (rd mine m2) (length other) other ys (map (md theirs) reads.modules) through2 (omega arith) (omega arith) (omega arith) leads;
         steps = λ l at f known stops.
-            ap (λ t. step t at (rd mine m2)) (same_number names all clean.apart l known (known_there l known))
-            ∙ step_same mine (renumber_apart names all clean.apart) (numbered names l) at m2
+            ap (λ t. step t at (rd mine m2)) (same_number names all apart l known (known_there l known))
+            ∙ step_same mine (renumber_apart names all apart) (numbered names l) at m2
             ∙ ap (vd mine (rd mine)) stops;
       }
     where
@@ -166,6 +168,9 @@ behind_all : (front next : List Piece) → drop (length front) (front ++ next) �
 behind_all front next = drop_front front next
 
 module _ (text : List ℕ) (at : ℕ) (short : length text ≤ 67108864) (o : Own text at) where
+  few : length o.names ≤ 4294967295
+  few = let less = o.clean.few in omega (arith, less, short)
+
   at_token : (ts front : List Piece) (fresh2 : Bool) (rest2 : List ℕ) (m2 : Reader) (p : Piece) → Through o.names (length text) front true text start fresh2 rest2 m2 → piece_of fresh2 rest2 ≡ Some p → is_known o.names p.lexeme ≡ true → step (numbered o.names p.lexeme) (length text - length rest2 + p.gap) m2 ≡ Stops o.off → at ≡ length text - length rest2 + p.gap → FirstFault text at
   at_token ts front fresh2 rest2 m2 p through there known stops place =
       let r = reached o.names (length text) front true text start fresh2 rest2 m2 (start_sound (length o.names)) through in
@@ -180,10 +185,10 @@ module _ (text : List ℕ) (at : ℕ) (short : length text ≤ 67108864) (o : Ow
       }
     where
       never : (more : List Piece) → IsNetlist (front ++ p ∷ more) → ⊥
-      never more = never_token o.names text o.clean short front fresh2 rest2 m2 p o.off more through known stops
+      never more = never_token o.names text o.clean.apart few front fresh2 rest2 m2 p o.off more through known stops
 
       by : (b : Bool) → is_stuck m2 ≡ b → Leaves Piece IsNetlist (front ++ p ∷ []) (length front) ⊎ IsStuck text front
-      by true e = inr (record { names = o.names; last = m2; leads = through_from o.names (length text) front true text start fresh2 rest2 m2 through; stuck = e })
+      by true e = inr (record { names = o.names; apart = o.clean.apart; few = few; last = m2; leads = through_from o.names (length text) front true text start fresh2 rest2 m2 through; stuck = e })
       by false e =
           let done = completed o.names text o.clean short front fresh2 rest2 m2 through e in
           let sum = length-append front (p ∷ []) in
@@ -211,7 +216,7 @@ module _ (text : List ℕ) (at : ℕ) (short : length text ≤ 67108864) (o : Ow
       }
     where
       by : (b : Bool) → is_stuck m2 ≡ b → Leaves Piece IsNetlist (front ++ []) (length front) ⊎ IsStuck text front
-      by true e = inr (record { names = o.names; last = m2; leads = through_from o.names (length text) front true text start fresh2 rest2 m2 through; stuck = e })
+      by true e = inr (record { names = o.names; apart = o.clean.apart; few = few; last = m2; leads = through_from o.names (length text) front true text start fresh2 rest2 m2 through; stuck = e })
       by false e =
           let done = completed o.names text o.clean short front fresh2 rest2 m2 through e in
           let sum = length-append front [] in
@@ -219,7 +224,7 @@ module _ (text : List ℕ) (at : ℕ) (short : length text ≤ 67108864) (o : Ow
             within = omega (arith, sum);
             before = (done.0, subst (λ xs. IsNetlist (xs ++ done.0)) (sym (take_front front [])) done.1);
             here = λ t rest is more k. none_left t rest (sym (behind_all front []) ∙ is);
-            ended = λ is k. never_end o.names text o.clean short front fresh2 rest2 m2 through refused k;
+            ended = λ is k. never_end o.names text o.clean.apart few front fresh2 rest2 m2 through refused k;
           })
         where
           none_left : (t : Piece) (rest : List Piece) → [] ≡ t ∷ rest → ⊥

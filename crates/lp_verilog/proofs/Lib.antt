@@ -16,6 +16,7 @@ pub mod Tabled
 pub mod Fronts
 pub mod Leaving
 pub mod Faults
+pub mod Stuck
 pub mod Unread
 pub mod Lines
 pub mod Phases

@@ -37,6 +37,11 @@ abbrev pub then_right : List Symbol → Bool
 then_right (symbols.Expect marks.Colon ∷ symbols.RightBound ∷ rest) = true
 then_right _ = false
 
+-- behind the right bound the range ends, and a name comes
+abbrev pub then_name : List Symbol → Bool
+then_name (symbols.Expect marks.CloseBracket ∷ symbols.DeclaredName ∷ rest) = true
+then_name _ = false
+
 -- what is waited for comes from the grammar
 abbrev pub Ok : List Symbol → Type 0
 Ok [] = ⊥
@@ -44,7 +49,7 @@ Ok (symbols.Source ∷ rest) = Unit {0}
 Ok (symbols.Items ∷ rest) = (plain rest ≡ true) × (calm rest ≡ true) × Ok rest
 Ok (symbols.Index ∷ rest) = (plain rest ≡ true) × (is_source rest ≡ false) × Ok rest
 Ok (symbols.LeftBound ∷ rest) = (then_right rest ≡ true) × (calm rest ≡ true) × (is_source rest ≡ false) × Ok rest
-Ok (symbols.RightBound ∷ rest) = (calm rest ≡ true) × (is_source rest ≡ false) × Ok rest
+Ok (symbols.RightBound ∷ rest) = (then_name rest ≡ true) × (calm rest ≡ true) × (is_source rest ≡ false) × Ok rest
 Ok (symbols.Expect mark ∷ rest) = (is_bracket (tokens.Mark mark) ≡ false) × (calm rest ≡ true) × (is_source rest ≡ false) × Ok rest
 Ok (s ∷ rest) = (plain rest ≡ true) × (calm rest ≡ true) × (is_source rest ≡ false) × Ok rest
 
@@ -52,8 +57,8 @@ abbrev pub Fits : Option Production → List Symbol → Type 0
 Fits None rest = Unit {0}
 Fits (Some p) rest = Ok (p.follow ++ rest)
 
-vector_fits : (rest : List Symbol) → (plain rest ≡ true) × (calm rest ≡ true) × (is_source rest ≡ false) × Ok rest → Ok (symbols.LeftBound ∷ symbols.Expect marks.Colon ∷ symbols.RightBound ∷ symbols.Expect marks.CloseBracket ∷ symbols.DeclaredName ∷ rest)
-vector_fits rest h = (refl, refl, refl, (refl, refl, refl, (refl, refl, (refl, refl, refl, h))))
+pub vector_fits : (rest : List Symbol) → (plain rest ≡ true) × (calm rest ≡ true) × (is_source rest ≡ false) × Ok rest → Ok (symbols.LeftBound ∷ symbols.Expect marks.Colon ∷ symbols.RightBound ∷ symbols.Expect marks.CloseBracket ∷ symbols.DeclaredName ∷ rest)
+vector_fits rest h = (refl, refl, refl, (refl, refl, refl, (refl, refl, refl, (refl, refl, refl, h))))
 
 pub fits : (s : Symbol) (t : Token) (rest : List Symbol) → Ok (s ∷ rest) → Fits (production s t) rest
 fits symbols.Source (tokens.Keyword keywords.Module) rest h = (refl, refl, refl, (refl, refl, refl, (refl, refl, tt)))
@@ -103,7 +108,7 @@ fits symbols.DeclaredName (tokens.Name n) rest h = h.3
 fits symbols.DeclaredName _ rest h = tt
 fits symbols.LeftBound (tokens.Number (Some v)) rest h = h.3
 fits symbols.LeftBound _ rest h = tt
-fits symbols.RightBound (tokens.Number (Some v)) rest h = h.2
+fits symbols.RightBound (tokens.Number (Some v)) rest h = h.3
 fits symbols.RightBound _ rest h = tt
 fits symbols.Items (tokens.Keyword keywords.EndModule) rest h = h.2
 fits symbols.Items (tokens.Keyword keywords.Input) rest h = (h.0, refl, refl, (h.0, refl, refl, h))

@@ -1,6 +1,7 @@
 -- Where a text leaves the netlists: at the first token that no netlist has after the same tokens before it (own rule).
-use Rattle.std.specs.Prelude.{◌≡◌, ◌⊎◌, ℕ, ◌+◌, ◌-◌, Bool, true, false, not, ◌&&◌, ◌||◌, ◌==◌, List, [], ◌∷◌, ◌++◌, length, Option, Some, None, is_some, max}
+use Rattle.std.specs.Prelude.{◌≡◌, ◌≤◌, ◌⊎◌, ℕ, ◌+◌, ◌-◌, Bool, true, false, not, ◌&&◌, ◌||◌, ◌==◌, List, [], ◌∷◌, ◌++◌, length, Option, Some, None, is_some, max}
 use Rattle.std.specs.List.{list_any}
+use Rattle.lp_text.specs.Texts.{distinct}
 use Rattle.lp_place.specs.Leaving.{Leaves}
 use Rattle.lp_model.specs.declared.netlist.BitRange.{BitRange}
 use Rattle.lp_model.specs.NetlistView.{ModuleView}
@@ -89,9 +90,11 @@ module _ (names : List (List ℕ)) (size : ℕ) where
       × (is_known names p.lexeme ≡ true)
       × ((u : Reader) × (step (numbered names p.lexeme) (size - length rest + p.gap) m ≡ Goes u) × LeadsFrom tokens false (behind p rest) u last)
 
--- the tokens end where the name of a port has to come that no port of the header can be
+-- the tokens end where the name of a port has to come that no port of the header can be; over a table of distinct names
 pub record IsStuck (text : List ℕ) (tokens : List Piece) : Type 0 where
   pub names : List (List ℕ)
+  pub apart : distinct names ≡ true
+  pub few : length names ≤ 4294967295
   pub last : Reader
   pub leads : LeadsFrom names (length text) tokens true text start last
   pub stuck : is_stuck last ≡ true
@@ -103,7 +106,8 @@ At text tokens (p ∷ []) at = at ≡ bytes_of tokens + p.gap
 At text tokens (p ∷ q ∷ more) at = ⊥
 
 -- the tokens before a fault and the one at it, or none at the end of the text: no netlist has them at the same bytes,
--- and those before it go on to a netlist, or a direction is being given that no port of the header can take
+-- and some netlist begins with those before it, or they end where a direction is being given that no port of the header
+-- can take. Then no netlist begins with them (the law `stuck_reads_nothing`), so that just one of the two holds
 pub record FirstFault (text : List ℕ) (at : ℕ) : Type 0 where
   pub tokens : List Piece
   pub next : List Piece

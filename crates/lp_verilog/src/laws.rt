@@ -1,5 +1,5 @@
 //! Laws about the definitions alone: each is the clause of a function that does nothing.
-ghost use Rattle.std.specs.Prelude.{◌≡◌, ◌≤◌, ℕ, List, true, length, map};
+ghost use Rattle.std.specs.Prelude.{◌≡◌, ◌≤◌, ℕ, List, true, length, map, ◌++◌};
 ghost use Rattle.std.specs.List.{flat_map};
 ghost use Rattle.lp_text.specs.Texts.{distinct, Grown};
 ghost use Rattle.lp_model.specs.declared.fault.refusal.Fault.{Fault};
@@ -8,7 +8,9 @@ ghost use Rattle.lp_model.specs.declared.netlist.Module.{Module};
 ghost use Rattle.lp_model.specs.Agreement.{numbers_below};
 ghost use Rattle.lp_model.specs.FaultLines.{fault_line};
 ghost use Rattle.lp_model.specs.NetlistView.{ModuleView, module_numbers, module_view};
+ghost use Rattle.lp_verilog_tokens.specs.Cutting.{Piece};
 ghost use Rattle.lp_verilog.specs.Denotes.{Denotes, LeadsTo};
+ghost use Rattle.lp_verilog.specs.Places.{IsNetlist, IsStuck};
 ghost use Rattle.lp_verilog.specs.Reads.{Reads};
 ghost use Rattle.lp_verilog.specs.Reading.{Outcome};
 ghost use Rattle.lp_verilog.specs.Refusing.{Refuses};
@@ -31,6 +33,11 @@ pub fn one_line()
 /// A text that is refused, and is not too long, denotes no netlist.
 pub fn refused_reads_nothing()
     ensures { (names : List (List ℕ)) (text : List ℕ) (f : Fault) (v : List ModuleView) → distinct names ≡ true → length names ≤ 4294967295 → length text ≤ 67108864 → Refuses names text (refusals.Fault f) → Reads text v → ⊥ }
+{}
+
+/// From tokens that end where a direction is being given that no port of the header can take, no tokens go on to a netlist.
+pub fn stuck_reads_nothing()
+    ensures { (text : List ℕ) (tokens more : List Piece) → IsStuck text tokens → IsNetlist (tokens ++ more) → ⊥ }
 {}
 
 /// The numbers in what a text denotes lie below the count of the names.

@@ -1,8 +1,4 @@
-use Rattle.std.proofs.Common.{◌≡◌, ◌≤◌, ◌<◌, ℕ, List, length, ◌⊎◌, inl, inr, arith}
-use Rattle.lp_model.specs.NetlistView.{ModuleView}
-use Rattle.lp_model.specs.declared.fault.refusal.Refusal.TheVariants as refusals
-use Rattle.lp_verilog.specs.Reads.{Reads}
-use Rattle.lp_verilog.specs.Refusing.{Refuses}
+use Rattle.std.proofs.Common.{inl, inr, arith}
 use Rattle.lp_verilog.proofs.Unique.{none_where_refused}
 use Rattle.lp_verilog.proofs.laws.refused_reads_nothing.Goals as goal
 
