@@ -1,3 +1,4 @@
 pub mod Below
 pub mod Finding
+pub mod Lasts
 pub mod Reading

@@ -1,6 +1,6 @@
 -- What the attributes of a Liberty group say (Liberty; that the last value counts is own rule).
-use Rattle.std.specs.Prelude.{ℕ, Bool, false, not, ◌&&◌, if◌then◌else◌, List, [], ◌∷◌, ◌++◌, Option, Some, None}
-use Rattle.std.specs.List.{flat_map}
+use Rattle.std.specs.Prelude.{ℕ, Bool, false, not, ◌&&◌, List, [], ◌∷◌, ◌++◌, Option, Some, None}
+use Rattle.std.specs.List.{filter, flat_map}
 use Rattle.std.specs.Option.{option_map}
 use Rattle.lp_text.specs.Texts.{same_text}
 use Rattle.lp_model.specs.GroupsView.{AttrView, GroupView}
@@ -16,18 +16,23 @@ is_simple word a = same_text a.word word && not a.complex
 abbrev pub is_complex : List ℕ → AttrView → Bool
 is_complex word a = same_text a.word word && a.complex
 
--- the last attribute that passes, and what was found before where none does
-abbrev pub last_that : (AttrView → Bool) → Option AttrView → List AttrView → Option AttrView
-last_that passes found [] = found
-last_that passes found (a ∷ attrs) = last_that passes (if passes a then Some a else found) attrs
+-- the last of a list
+abbrev pub last_of : {A : Type 0} → List A → Option A
+last_of [] = None
+last_of (x ∷ []) = Some x
+last_of (x ∷ y ∷ rest) = last_of (y ∷ rest)
+
+-- the last attribute that passes
+abbrev pub last_that : (AttrView → Bool) → List AttrView → Option AttrView
+last_that passes attrs = last_of (filter passes attrs)
 
 -- the value of a simple attribute of a group
 abbrev pub value_of : List ℕ → GroupView → Option (List ℕ)
-value_of word g = option_map (λ a. joined a.items) (last_that (is_simple word) None g.attrs)
+value_of word g = option_map (λ a. joined a.items) (last_that (is_simple word) g.attrs)
 
 -- the values of a complex attribute of a group
 abbrev pub values_of : List ℕ → GroupView → Option (List (List ℕ))
-values_of word g = option_map (λ a. a.items) (last_that (is_complex word) None g.attrs)
+values_of word g = option_map (λ a. a.items) (last_that (is_complex word) g.attrs)
 
 -- whether a value is there, and is this text
 abbrev pub is_text : List ℕ → Option (List ℕ) → Bool

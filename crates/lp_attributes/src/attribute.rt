@@ -1,4 +1,4 @@
-ghost use Rattle.std.specs.Prelude.{◌≡◌, ◌++◌, ◌∷◌, None, IfOk, OnOk, map, is_some};
+ghost use Rattle.std.specs.Prelude.{◌≡◌, ◌++◌, ◌∷◌, IfOk, OnOk, map, is_some};
 ghost use Rattle.std.specs.List.{flat_map};
 ghost use Rattle.std.specs.Option.{option_copied, option_map};
 ghost use Rattle.std.specs.String.{string_bytes};
@@ -51,8 +51,9 @@ fn is_complex(names: &Names, attr: &Attr, word: &str) -> bool
 }
 
 /// The last simple attribute of a word.
+#[tactic(auto, using(crate::proofs::Lasts::last_from_whole))]
 fn last_simple<'a>(names: &Names, attrs: &'a [Attr], word: &str) -> Option<&'a Attr>
-    ensures { option_map (attr_view names.now) (option_copied result) ≡ last_that (is_simple word.now) None (map (attr_view names.now) attrs.now) }
+    ensures { option_map (attr_view names.now) (option_copied result) ≡ last_that (is_simple word.now) (map (attr_view names.now) attrs.now) }
 {
     let mut found = None;
     for attr in attrs {
@@ -64,8 +65,9 @@ fn last_simple<'a>(names: &Names, attrs: &'a [Attr], word: &str) -> Option<&'a A
 }
 
 /// The last complex attribute of a word.
+#[tactic(auto, using(crate::proofs::Lasts::last_from_whole))]
 fn last_complex<'a>(names: &Names, attrs: &'a [Attr], word: &str) -> Option<&'a Attr>
-    ensures { option_map (attr_view names.now) (option_copied result) ≡ last_that (is_complex word.now) None (map (attr_view names.now) attrs.now) }
+    ensures { option_map (attr_view names.now) (option_copied result) ≡ last_that (is_complex word.now) (map (attr_view names.now) attrs.now) }
 {
     let mut found = None;
     for attr in attrs {

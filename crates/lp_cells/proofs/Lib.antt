@@ -1,5 +1,6 @@
 pub mod Below
 pub mod Naming
+pub mod Second
 pub mod Sounding
 pub mod Standing
 pub mod Usability

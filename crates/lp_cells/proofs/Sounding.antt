@@ -1,7 +1,7 @@
 -- A cell without a reason passes the tests of those that can be used.
 use Rattle.std.proofs.Common.{◌≡◌, ℕ, ◌≤◌, ◌<◌, ◌+◌, Bool, true, false, List, [], ◌∷◌, ◌++◌, length, take, min, Option, Some, None, refl, sym, ap, ◌∙◌, subst, arith, append_assoc, length-append, not, ◌&&◌, ◌||◌}
-use Rattle.std.specs.Prelude.{map, fold, codes, if◌then◌else◌, is_some, slice_get, slice_index_or, nat_lt}
-use Rattle.std.specs.List.{list_all, list_any, find}
+use Rattle.std.specs.Prelude.{map, fold, cond, codes, if◌then◌else◌, is_some, slice_get, slice_index_or, nat_lt}
+use Rattle.std.specs.List.{list_all, list_any, enumerate_from, filter, find}
 use Rattle.std.specs.Option.{option_map}
 use Rattle.std.proofs.lemmas.Bool.{and_parts, and_from, or_parts, not-false, lt-ltb, ltb-false, le-leb, true≢false}
 use Rattle.std.proofs.lemmas.List.{append-nil, length-map}
@@ -19,10 +19,10 @@ use Rattle.lp_attributes.specs.Expressions.{are_known, expression_over}
 use Rattle.lp_parts.specs.Source.{is_part, arg_at, inside, is_cell}
 use Rattle.lp_parts.specs.Names.{is_state, is_output, pin_names, with_inputs, with_pg}
 use Rattle.lp_parts.specs.Functions.{is_power, is_ground, kinds_of, passed, place_if_any, alone, small}
-use Rattle.lp_parts.specs.Pins.{Scope, kind_of, is_internal_power, switched_by, switched_of, pg_of, pgs_at, pgs_of, is_primary_power, is_primary_ground, only_from, only, related_by, direction_of, function_if_any, function_of, power_down_of, pin_of, pins_at, pins_of}
+use Rattle.lp_parts.specs.Pins.{Scope, kind_of, is_internal_power, switched_by, switched_of, pg_of, pgs_at, pgs_of, is_primary_power, is_primary_ground, places_from, the_one, only_place, only, related_by, direction_of, function_if_any, function_of, power_down_of, pin_of, pins_at, pins_of}
 use Rattle.lp_parts.specs.Roles.{copy_if_any, copy_of, is_retention, is_switch}
 use Rattle.lp_parts.specs.States.{clock_text, down_text, is_pin, next_text, state_by, state_of}
-use Rattle.lp_cells.specs.Reasons.{all_names, is_free, is_visible, has_bad_name, repeated, has_name_twice, has_bad_pg, lacks_pgs, has_no_kind, has_no_direction, names_power, names_ground, is_power_at, is_ground_at, is_powered, is_grounded, is_related, has_bad_related, reads_if_any, reads_down, reads_pin, reads_pg, reads_state, reads_switched, reads_all, has_bad_range, has_second, lacks_copy, has_bad_retention, has_construct, late_reason, middle_reason, reason_of}
+use Rattle.lp_cells.specs.Reasons.{all_names, is_free, is_visible, has_bad_name, repeated, has_name_twice, has_bad_pg, lacks_pgs, has_no_kind, has_no_direction, names_power, names_ground, is_power_at, is_ground_at, is_powered, is_grounded, is_related, has_bad_related, reads_if_any, reads_down, reads_pin, reads_pg, reads_state, reads_switched, reads_all, has_bad_range, has_two, lacks_copy, has_bad_retention, has_construct, late_reason, middle_reason, reason_of}
 use Rattle.lp_cells.specs.Cells.{scope_of, cell_by, cell_of, cell_at, cells_from, cells_in, cells_of}
 use Rattle.lp_cells.specs.Sound.{state_names, is_over_if_any, has_function, is_grounded_at, has_functions, has_related, is_sound_switched, is_sound_state, passes, is_sound_cell}
 use Rattle.lp_cells.proofs.Standing.{known_self, known_front, known_back, pgs_in, inputs_in, variables_in, over_in, function_in, down_in}
@@ -51,7 +51,7 @@ record Clear (place : ℕ) (sc : Scope) (head : GroupView) (groups : List GroupV
   few_pgs : length (kinds_of sc.pgs) ≤ 8
   related : list_any (has_bad_related place sc) groups ≡ false
   read : list_all (reads_all place sc) groups ≡ true
-  one_state : has_second (is_state place) false groups ≡ false
+  one_state : length (filter (is_state place) groups) ≤ 1
   few_pins : length (map (λ (p : PinView). p.name) pins) ≤ 240
 
 is_none-of : {A : Type 0} (o : Option A) → is_some o ≡ false → o ≡ None
@@ -64,7 +64,7 @@ clear place sc head groups pins e =
     let all = all_names pins sc.pgs in
     let one = none_2 (has_bad_name (arg_at 0 head) all) (has_name_twice all) reasons.Name reasons.Twice (middle_reason place sc head groups names) e in
     let two = none_3 (has_bad_pg place head groups (kinds_of sc.pgs)) (list_any (has_no_direction place) groups) (list_any (has_bad_related place sc) groups) reasons.Pg reasons.Direction reasons.Related (late_reason place sc head groups names) one.1.1 in
-    let late = none_5 (not (list_all (reads_all place sc) groups)) (has_bad_range head) (has_second (is_state place) false groups) (lacks_copy place head groups || list_any (has_bad_retention place) groups) (has_construct place head groups names) reasons.Function reasons.Range reasons.Groups reasons.Retention reasons.Construct None two.1.1.1 in
+    let late = none_5 (not (list_all (reads_all place sc) groups)) (has_bad_range head) (has_two (is_state place) groups) (lacks_copy place head groups || list_any (has_bad_retention place) groups) (has_construct place head groups names) reasons.Function reasons.Range reasons.Groups reasons.Retention reasons.Construct None two.1.1.1 in
     let named = and_parts (is_free (arg_at 0 head)) (list_all is_visible all) (not-false (is_free (arg_at 0 head) && list_all is_visible all) one.0) in
     let pgs = or_parts (list_any (has_no_kind place) groups) (lacks_pgs (is_switch head) (kinds_of sc.pgs)) two.0 in
     let few = or_parts (nat_lt 8 (length (kinds_of sc.pgs))) _ pgs.1 in
@@ -76,7 +76,7 @@ clear place sc head groups pins e =
       few_pgs = ltb-false 8 (length (kinds_of sc.pgs)) few.0;
       related = two.1.1.0;
       read = not-false (list_all (reads_all place sc) groups) late.0;
-      one_state = late.1.1.0;
+      one_state = ltb-false 1 (length (filter (is_state place) groups)) late.1.1.0;
       few_pins = ltb-false 240 (length names) taken.0;
     }
 
@@ -132,26 +132,28 @@ behind : {A : Type 0} (front : List A) (x : A) (more : List A) → slice_get (fr
 behind [] x more = refl
 behind (y ∷ front) x more = behind front x more
 
-only_at : (test : PgKind → Bool) (kinds front : List PgKind) (found : Option ℕ) (k : ℕ) → (found ≡ Some k → test_at test (slice_get (front ++ kinds) k) ≡ true) → only_from (length front) test found kinds ≡ Some k → test_at test (slice_get (front ++ kinds) k) ≡ true
-only_at test [] front found k met e = met e
-only_at test (x ∷ more) front found k met e =
-    by (test x) refl found met (λ f m h. only_at test more (front ++ x ∷ []) f k m h) e
+abbrev passes_at : (PgKind → Bool) → List PgKind → ℕ → Bool
+passes_at test kinds k = test_at test (slice_get kinds k)
+
+-- each of the places is that of a pin that passes
+places_pass : (test : PgKind → Bool) (kinds front : List PgKind) → list_all (passes_at test (front ++ kinds)) (places_from (length front) test kinds) ≡ true
+places_pass test [] front = refl
+places_pass test (x ∷ more) front =
+    let moved = subst (λ (all : List PgKind). list_all (passes_at test all) (places_from (length (front ++ x ∷ [])) test more) ≡ true) (append_assoc front (x ∷ []) more) (places_pass test more (front ++ x ∷ [])) in
+    by (test x) refl (filter (λ (p : ℕ × PgKind). test p.1) (enumerate_from (length front + 1) more)) (subst (λ (n : ℕ). list_all (passes_at test (front ++ x ∷ more)) (places_from n test more) ≡ true) (length-append front (x ∷ [])) moved)
   where
-    at_k : List PgKind → Type 0
-    at_k all = test_at test (slice_get all k) ≡ true
+    by : (b : Bool) → test x ≡ b → (passing : List (ℕ × PgKind)) → list_all (passes_at test (front ++ x ∷ more)) (map (λ (p : ℕ × PgKind). p.0) passing) ≡ true
+        → list_all (passes_at test (front ++ x ∷ more)) (map (λ (p : ℕ × PgKind). p.0) (cond b ((length front, x) ∷ passing) passing)) ≡ true
+    by true t passing all = and_from _ _ (subst (λ (o : Option PgKind). test_at test o ≡ true) (sym (behind front x more)) t) all
+    by false t passing all = all
 
-    same : (front ++ x ∷ []) ++ more ≡ front ++ x ∷ more
-    same = append_assoc front (x ∷ []) more
+one_passes : (test : ℕ → Bool) (places : List ℕ) (k : ℕ) → the_one places ≡ Some k → list_all test places ≡ true → test k ≡ true
+one_passes test [] k e all = absurd (cc)
+one_passes test (n ∷ []) k e all = let same : n ≡ k = cc in subst (λ (m : ℕ). test m ≡ true) same (and_parts (test n) true all).0
+one_passes test (n ∷ m ∷ rest) k e all = absurd (cc)
 
-    longer : length (front ++ x ∷ []) ≡ length front + 1
-    longer = length-append front (x ∷ [])
-
-    by : (b : Bool) → test x ≡ b → (f : Option ℕ) → (f ≡ Some k → at_k (front ++ x ∷ more)) → ((h : Option ℕ) → (h ≡ Some k → at_k ((front ++ x ∷ []) ++ more)) → only_from (length (front ++ x ∷ [])) test h more ≡ Some k → at_k ((front ++ x ∷ []) ++ more)) → (if b then (if is_some f then None else only_from (length front + 1) test (Some (length front)) more) else only_from (length front + 1) test f more) ≡ Some k → at_k (front ++ x ∷ more)
-    by true t (Some n) m next h = absurd (cc)
-    by true t None m next h =
-        let here : Some (length front) ≡ Some k → at_k ((front ++ x ∷ []) ++ more) = λ s. subst at_k (sym same) (let is : length front ≡ k = cc in subst (λ (n : ℕ). test_at test (slice_get (front ++ x ∷ more) n) ≡ true) is (subst (λ (o : Option PgKind). test_at test o ≡ true) (sym (behind front x more)) t)) in
-        subst at_k same (next (Some (length front)) here (subst (λ (n : ℕ). only_from n test (Some (length front)) more ≡ Some k) (sym longer) h))
-    by false t f m next h = subst at_k same (next f (λ s. subst at_k (sym same) (m s)) (subst (λ (n : ℕ). only_from n test f more ≡ Some k) (sym longer) h))
+only_at : (test : PgKind → Bool) (kinds : List PgKind) (k : ℕ) → only_place test kinds ≡ Some k → test_at test (slice_get kinds k) ≡ true
+only_at test kinds k e = one_passes (passes_at test kinds) (places_from 0 test kinds) k e (places_pass test kinds [])
 
 primary_is_power : (o : Option PgKind) → test_at is_primary_power o ≡ true → is_power_at o ≡ true
 primary_is_power None e = e
@@ -190,14 +192,14 @@ sole_power pgs e = by (only is_primary_power pgs) refl e
   where
     by : (o : Option ℕ) → only is_primary_power pgs ≡ o → is_some o ≡ true → names_power (kinds_of pgs) o ≡ true
     by None is h = absurd (true≢false (sym h))
-    by (Some k) is h = primary_is_power (slice_get (kinds_of pgs) k) (only_at is_primary_power (kinds_of pgs) [] None k (λ e. absurd (cc)) is)
+    by (Some k) is h = primary_is_power (slice_get (kinds_of pgs) k) (only_at is_primary_power (kinds_of pgs) k is)
 
 sole_ground : (pgs : List PgPinView) → is_some (only is_primary_ground pgs) ≡ true → names_ground (kinds_of pgs) (only is_primary_ground pgs) ≡ true
 sole_ground pgs e = by (only is_primary_ground pgs) refl e
   where
     by : (o : Option ℕ) → only is_primary_ground pgs ≡ o → is_some o ≡ true → names_ground (kinds_of pgs) o ≡ true
     by None is h = absurd (true≢false (sym h))
-    by (Some k) is h = primary_is_ground (slice_get (kinds_of pgs) k) (only_at is_primary_ground (kinds_of pgs) [] None k (λ e. absurd (cc)) is)
+    by (Some k) is h = primary_is_ground (slice_get (kinds_of pgs) k) (only_at is_primary_ground (kinds_of pgs) k is)
 
 powered : (kinds : List PgKind) (names : List (List ℕ)) (sole : Option ℕ) (value : Option (List ℕ)) → length kinds ≤ 8 → (is_some sole ≡ true → names_power kinds sole ≡ true) → is_powered kinds names (is_some sole) value ≡ true → names_power kinds (Some (small (related_by names sole value))) ≡ true
 powered kinds names sole None few is h = kept_power kinds sole few (is h)

@@ -1,5 +1,5 @@
 -- The names that the functions of a cell may have are names of its pins and of its state.
-use Rattle.std.proofs.Common.{◌≡◌, ℕ, zero, suc, Bool, true, false, List, [], ◌∷◌, ◌++◌, take, Option, Some, None, refl, sym, ap, ◌∙◌, subst, not, ◌&&◌, ◌||◌}
+use Rattle.std.proofs.Common.{◌≡◌, ℕ, zero, suc, ◌≤◌, Bool, true, false, List, [], ◌∷◌, ◌++◌, length, take, Option, Some, None, refl, sym, ap, ◌∙◌, subst, arith, not, ◌&&◌, ◌||◌}
 use Rattle.std.specs.Prelude.{map, fold, cond, codes, if◌then◌else◌, unwrap_or}
 use Rattle.std.specs.List.{filter, find, flat_map}
 use Rattle.std.proofs.lemmas.Bool.{and_parts, and_from}
@@ -15,7 +15,6 @@ use Rattle.lp_parts.specs.Names.{is_state, is_output, with_texts, with_inputs, w
 use Rattle.lp_parts.specs.Functions.{nothing, over_if_any, is_plain, plain_names, down_of}
 use Rattle.lp_parts.specs.Pins.{Scope, function_if_any, pg_of, pgs_at, pin_of, pins_at}
 use Rattle.lp_parts.proofs.Known.{either, known_with}
-use Rattle.lp_cells.specs.Reasons.{has_second}
 use Rattle.lp_cells.specs.Sound.{is_over, is_over_if_any}
 
 -- ---- texts among texts
@@ -113,20 +112,20 @@ module _ (R : List (List ℕ)) where
         let both = and_parts (has_text t R) (are_known R texts) all in
         variables_set texts (with_variable pins set t) (either R (has_text t pins) set (with_text set t) known (known_with R set t known both.0)) both.1
 
-    none_more : (groups : List GroupView) (set : List (List ℕ)) → has_second (is_state place) true groups ≡ false → fold (with_variables place pins) set groups ≡ set
+    none_more : (groups : List GroupView) (set : List (List ℕ)) → length (filter (is_state place) groups) ≡ 0 → fold (with_variables place pins) set groups ≡ set
     none_more [] set e = refl
     none_more (g ∷ groups) set e = by (is_state place g) (λ h. none_more groups set h) e
       where
-        by : (b : Bool) → (has_second (is_state place) true groups ≡ false → fold (with_variables place pins) set groups ≡ set) → (if b then (if true then true else has_second (is_state place) true groups) else has_second (is_state place) true groups) ≡ false → fold (with_variables place pins) (if b then fold (with_variable pins) set (take 2 g.args) else set) groups ≡ set
-        by true more h = absurd (cc)
+        by : (b : Bool) → (length (filter (is_state place) groups) ≡ 0 → fold (with_variables place pins) set groups ≡ set) → length (cond b (g ∷ filter (is_state place) groups) (filter (is_state place) groups)) ≡ 0 → fold (with_variables place pins) (if b then fold (with_variable pins) set (take 2 g.args) else set) groups ≡ set
+        by true more h = absurd (omega arith)
         by false more h = more h
 
-    pub variables_in : (groups : List GroupView) (set : List (List ℕ)) → are_known R set ≡ true → has_second (is_state place) false groups ≡ false → ((g : GroupView) → find (is_state place) groups ≡ Some g → are_known R (take 2 g.args) ≡ true) → are_known R (fold (with_variables place pins) set groups) ≡ true
+    pub variables_in : (groups : List GroupView) (set : List (List ℕ)) → are_known R set ≡ true → length (filter (is_state place) groups) ≤ 1 → ((g : GroupView) → find (is_state place) groups ≡ Some g → are_known R (take 2 g.args) ≡ true) → are_known R (fold (with_variables place pins) set groups) ≡ true
     variables_in [] set known e first = known
     variables_in (g ∷ groups) set known e first = by (is_state place g) (λ h f. variables_in groups set known h f) e first
       where
-        by : (b : Bool) → (has_second (is_state place) false groups ≡ false → ((h : GroupView) → find (is_state place) groups ≡ Some h → are_known R (take 2 h.args) ≡ true) → are_known R (fold (with_variables place pins) set groups) ≡ true) → (if b then (if false then true else has_second (is_state place) true groups) else has_second (is_state place) false groups) ≡ false → ((h : GroupView) → cond b (Some g) (find (is_state place) groups) ≡ Some h → are_known R (take 2 h.args) ≡ true) → are_known R (fold (with_variables place pins) (if b then fold (with_variable pins) set (take 2 g.args) else set) groups) ≡ true
-        by true more h here = rw (none_more groups (fold (with_variable pins) set (take 2 g.args)) h) (variables_set (take 2 g.args) set known (here g refl))
+        by : (b : Bool) → (length (filter (is_state place) groups) ≤ 1 → ((h : GroupView) → find (is_state place) groups ≡ Some h → are_known R (take 2 h.args) ≡ true) → are_known R (fold (with_variables place pins) set groups) ≡ true) → length (cond b (g ∷ filter (is_state place) groups) (filter (is_state place) groups)) ≤ 1 → ((h : GroupView) → cond b (Some g) (find (is_state place) groups) ≡ Some h → are_known R (take 2 h.args) ≡ true) → are_known R (fold (with_variables place pins) (if b then fold (with_variable pins) set (take 2 g.args) else set) groups) ≡ true
+        by true more h here = rw (none_more groups (fold (with_variable pins) set (take 2 g.args)) (omega arith)) (variables_set (take 2 g.args) set known (here g refl))
         by false more h here = more h here
 
   -- ---- functions over known names

@@ -1,6 +1,6 @@
 -- Why a cell cannot be used (own rule): tests of its groups and of the cell that they make.
 use Rattle.std.specs.Prelude.{ℕ, Bool, true, false, not, ◌&&◌, ◌||◌, ◌==◌, nat_lt, nat_le, nat_eq, List, [], ◌∷◌, ◌++◌, length, map, Option, Some, None, is_some, is_none, if◌then◌else◌, codes, slice_get}
-use Rattle.std.specs.List.{list_any, list_all, starts_with}
+use Rattle.std.specs.List.{filter, list_any, list_all, starts_with}
 use Rattle.lp_text.specs.Texts.{has_text, place_of}
 use Rattle.lp_model.specs.declared.reason.Reason.{Reason}
 use Rattle.lp_model.specs.declared.reason.Reason.TheVariants as reasons
@@ -153,10 +153,9 @@ has_bad_range head = is_bad_range (values_of (codes "input_voltage_range") head)
 
 -- ---- groups
 
--- a second group passes, where one may have been met already
-abbrev pub has_second : (GroupView → Bool) → Bool → List GroupView → Bool
-has_second test met [] = false
-has_second test met (g ∷ groups) = if test g then (if met then true else has_second test true groups) else has_second test met groups
+-- more than one group passes
+abbrev pub has_two : (GroupView → Bool) → List GroupView → Bool
+has_two test groups = nat_lt 1 (length (filter test groups))
 
 -- ---- retention
 
@@ -220,7 +219,7 @@ abbrev pub late_reason : ℕ → Scope → GroupView → List GroupView → List
 late_reason place sc head groups names =
     if not (list_all (reads_all place sc) groups) then Some reasons.Function
     else if has_bad_range head then Some reasons.Range
-    else if has_second (is_state place) false groups then Some reasons.Groups
+    else if has_two (is_state place) groups then Some reasons.Groups
     else if lacks_copy place head groups || list_any (has_bad_retention place) groups then Some reasons.Retention
     else if has_construct place head groups names then Some reasons.Construct
     else None

@@ -155,6 +155,7 @@ pub fn library(alloc: Global, names: &mut Names, files: &[Groups]) -> Result<Lib
     ensures ok { IfOk result (λ l. IsLibrary (map (groups_view names.new) files.now) (library_view names.new l)) }
     ensures numbers { IfOk result (λ l. numbers_below (length names.new) (library_numbers l) ≡ true) }
     ensures err { IfErr result (RefusesLibrary names.new (map (groups_view names.new) files.now)) }
+    ensures empty { OnOk result (names.new ≡ with_text names.old []) }
     ensures grown { Grown names.old names.new }
     ensures few { length names.new ≤ length names.old + 1 }
 {

@@ -1,9 +1,9 @@
-ghost use Rattle.std.specs.Prelude.{◌≡◌, false, map};
+ghost use Rattle.std.specs.Prelude.{◌≡◌, map};
 ghost use Rattle.std.specs.List.{list_any};
 ghost use Rattle.lp_model.specs.GroupsView.{group_view};
 ghost use Rattle.lp_attributes.specs.Attributes.{values_of};
 ghost use Rattle.lp_parts.specs.Names.{is_state};
-ghost use Rattle.lp_cells.specs.Reasons.{has_bad_range, has_condition, has_second, is_bad_range, is_construct, is_left_out};
+ghost use Rattle.lp_cells.specs.Reasons.{has_bad_range, has_condition, has_two, is_bad_range, is_construct, is_left_out};
 
 use lp_attributes::{has, range, values};
 use lp_model::Group;
@@ -29,8 +29,9 @@ pub(crate) fn has_bad_range(names: &Names, head: &Group) -> bool
 }
 
 /// Whether a cell has two state groups.
+#[tactic(auto, using(crate::proofs::Second::has_second_whole))]
 pub(crate) fn has_two_states(names: &Names, place: usize, groups: &[Group]) -> bool
-    ensures { result ≡ has_second (is_state place) false (map (group_view names.now) groups.now) }
+    ensures { result ≡ has_two (is_state place) (map (group_view names.now) groups.now) }
 {
     let mut met = false;
     for group in groups {

@@ -1,6 +1,6 @@
 -- The pins of a cell (Liberty pg_pin and pin).
-use Rattle.std.specs.Prelude.{ℕ, Bool, true, false, not, ◌&&◌, List, [], ◌∷◌, map, Option, Some, None, unwrap_or, is_some, is_none, if◌then◌else◌, codes, slice_get, drop, ◌+◌}
-use Rattle.std.specs.List.{list_any, flat_map, find}
+use Rattle.std.specs.Prelude.{ℕ, Bool, true, false, not, ◌&&◌, List, [], ◌∷◌, map, Option, Some, None, unwrap_or, is_none, if◌then◌else◌, codes, slice_get, drop}
+use Rattle.std.specs.List.{list_any, enumerate_from, filter, flat_map, find}
 use Rattle.std.specs.Option.{option_map}
 use Rattle.std.specs.Prelude.{option_and_then}
 use Rattle.lp_text.specs.Texts.{place_of}
@@ -67,14 +67,22 @@ abbrev pub is_primary_ground : PgKind → Bool
 is_primary_ground kinds.PrimaryGround = true
 is_primary_ground _ = false
 
--- the place of the only pin that passes, where one was found before or not and places are counted from n
-abbrev pub only_from : ℕ → (PgKind → Bool) → Option ℕ → List PgKind → Option ℕ
-only_from n test found [] = found
-only_from n test found (kind ∷ more) =
-    if test kind then (if is_some found then None else only_from (n + 1) test (Some n) more) else only_from (n + 1) test found more
+-- the places, counted from n, of the pins that pass
+abbrev pub places_from : ℕ → (PgKind → Bool) → List PgKind → List ℕ
+places_from n test kinds = map (λ (x : ℕ × PgKind). x.0) (filter (λ (x : ℕ × PgKind). test x.1) (enumerate_from n kinds))
+
+-- what a list has where it has one alone
+abbrev pub the_one : {A : Type 0} → List A → Option A
+the_one [] = None
+the_one (x ∷ []) = Some x
+the_one (x ∷ y ∷ rest) = None
+
+-- the place of the only pin that passes
+abbrev pub only_place : (PgKind → Bool) → List PgKind → Option ℕ
+only_place test kinds = the_one (places_from 0 test kinds)
 
 abbrev pub only : (PgKind → Bool) → List PgPinView → Option ℕ
-only test pgs = only_from 0 test None (kinds_of pgs)
+only test pgs = only_place test (kinds_of pgs)
 
 -- a switch cell without primary, backup and internal ground pin: its signal pins have no related ground pin
 abbrev pub floats : Bool → List PgPinView → Bool

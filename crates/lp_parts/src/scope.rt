@@ -1,7 +1,7 @@
-ghost use Rattle.std.specs.Prelude.{◌≡◌, None, map};
+ghost use Rattle.std.specs.Prelude.{◌≡◌, map};
 ghost use Rattle.std.specs.List.{list_any};
 ghost use Rattle.lp_parts.specs.Functions.{is_ground, is_power};
-ghost use Rattle.lp_parts.specs.Pins.{is_primary_ground, is_primary_power, only_from};
+ghost use Rattle.lp_parts.specs.Pins.{is_primary_ground, is_primary_power, only_place};
 
 use lp_model::{PgKind, PgPin};
 use lp_table::Table;
@@ -59,8 +59,9 @@ fn is_primary_ground(kind: PgKind) -> bool
 }
 
 /// The place of the only primary power pin.
+#[tactic(auto, using(crate::proofs::Places::only_from_whole))]
 pub fn only_power(pgs: &[PgPin]) -> Option<usize>
-    ensures { result ≡ only_from 0 is_primary_power None (map (λ p. p.kind) pgs.now) }
+    ensures { result ≡ only_place is_primary_power (map (λ p. p.kind) pgs.now) }
 {
     let mut found = None;
     for (place, pg) in pgs.iter().enumerate() {
@@ -75,8 +76,9 @@ pub fn only_power(pgs: &[PgPin]) -> Option<usize>
 }
 
 /// The place of the only primary ground pin.
+#[tactic(auto, using(crate::proofs::Places::only_from_whole))]
 pub fn only_ground(pgs: &[PgPin]) -> Option<usize>
-    ensures { result ≡ only_from 0 is_primary_ground None (map (λ p. p.kind) pgs.now) }
+    ensures { result ≡ only_place is_primary_ground (map (λ p. p.kind) pgs.now) }
 {
     let mut found = None;
     for (place, pg) in pgs.iter().enumerate() {

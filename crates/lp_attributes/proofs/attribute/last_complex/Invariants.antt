@@ -1,8 +1,9 @@
-use Rattle.std.proofs.Common.{◌≡◌, drop, map, None}
+use Rattle.std.proofs.Common.{◌≡◌, drop, map}
 use Rattle.std.specs.Option.{option_copied, option_map}
 use Rattle.lp_model.specs.GroupsView.{attr_view}
 use Rattle.lp_attributes.specs.Attributes.{is_complex, last_that}
+use Rattle.lp_attributes.proofs.Lasts.{last_from}
 use Rattle.lp_attributes.proofs.attribute.last_complex.Given as goal
 
 abbrev pub invariant-loop-attr : goal.invariant-loop-attr
-invariant-loop-attr l = last_that (is_complex l.word) (option_map (attr_view l.names) (option_copied l.found)) (map (attr_view l.names) (drop l.attr-index l.attrs)) ≡ last_that (is_complex l.word) None (map (attr_view l.names) l.attrs)
+invariant-loop-attr l = last_from (is_complex l.word) (option_map (attr_view l.names) (option_copied l.found)) (map (attr_view l.names) (drop l.attr-index l.attrs)) ≡ last_that (is_complex l.word) (map (attr_view l.names) l.attrs)
