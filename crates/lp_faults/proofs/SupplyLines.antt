@@ -1,18 +1,21 @@
 -- Lines about supply networks, computed on the small ones.
-use Rattle.std.proofs.Common.{◌≡◌, List, [], ◌∷◌, ◌++◌, Some, None, refl}
-use Rattle.std.specs.Prelude.{codes, map, option_and_then}
+use Rattle.std.proofs.Common.{◌≡◌, ℕ, List, [], ◌∷◌, ◌++◌, Option, Some, None, refl}
+use Rattle.std.specs.Prelude.{codes, map, replicate, option_and_then}
+use Rattle.lp_model.specs.declared.fault.intent.IntentLimit.{IntentLimit}
+use Rattle.lp_model.specs.declared.fault.intent.IntentLimit.TheVariants as limits
+use Rattle.lp_model.specs.declared.intent.Applies.TheVariants.{Outputs}
 use Rattle.lp_model.specs.declared.intent.DeclaredState.TheVariants.{On, Off}
 use Rattle.lp_model.specs.declared.supply.OriginKind.TheVariants.{Port}
 use Rattle.lp_model.specs.declared.supply.Supplies as model
 use Rattle.lp_design.specs.Intents.{Intent}
-use Rattle.lp_design.specs.Samples.{with_strategies}
+use Rattle.lp_design.specs.Samples.{with_strategies, isolation}
 use Rattle.lp_network.specs.Samples.{origin}
 use Rattle.lp_origins.specs.Commands.{Command, NetAt, MakesNet, MakesSet}
 use Rattle.lp_origins.specs.Sets.{SupplySet}
 use Rattle.lp_origins.specs.Samples.{in_top, set_between, three, doubled, circular}
 use Rattle.lp_realises.specs.Samples.{supplies}
 use Rattle.lp_first.specs.Lines.{first_of}
-use Rattle.lp_faults.specs.Supplies.{Asked, SetMade, SupplyMade, undriven, two_sources, supply_loop, ground_mismatch, ground_level, no_states}
+use Rattle.lp_faults.specs.Supplies.{intent_limits, Asked, SetMade, SupplyMade, undriven, two_sources, supply_loop, ground_mismatch, ground_level, no_states}
 
 -- two domains, whose primary supplies are sets 0 and 1
 abbrev intent : Intent
@@ -68,3 +71,15 @@ raised_ground = refl
 -- the block's power has no declared state
 stateless_power : first_of (no_states intent (supplies [] [])) ≡ Some 1
 stateless_power = refl
+
+-- ---- limits
+
+-- so many strategies, rows and origins
+abbrev sized : ℕ → ℕ → ℕ → Option IntentLimit
+sized strategies rows origins = first_of (intent_limits (with_strategies (replicate strategies (isolation 1 None Outputs))) (record network { rows = replicate rows (record { states = [] }); origins = replicate origins (origin 0 (Port [])) }))
+
+at_the_limits : sized 4096 4096 1024 ≡ None
+at_the_limits = refl
+
+above_one : sized 4097 4097 1025 ∷ sized 4096 4097 1025 ∷ sized 4096 4096 1025 ∷ [] ≡ Some limits.Strategies ∷ Some limits.Rows ∷ Some limits.Origins ∷ []
+above_one = refl

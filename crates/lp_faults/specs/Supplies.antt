@@ -3,6 +3,8 @@ use Rattle.std.specs.Prelude.{ℕ, zero, suc, ◌==◌, nat_lt, Bool, true, fals
 use Rattle.std.specs.List.{list_any}
 use Rattle.lp_model.specs.declared.intent.DeclaredState.{DeclaredState}
 use Rattle.lp_model.specs.declared.intent.DeclaredState.TheVariants.{On, Off}
+use Rattle.lp_model.specs.declared.fault.intent.IntentLimit.{IntentLimit}
+use Rattle.lp_model.specs.declared.fault.intent.IntentLimit.TheVariants as limits
 use Rattle.lp_model.specs.declared.supply.OriginKind.{OriginKind}
 use Rattle.lp_model.specs.declared.supply.OriginKind.TheVariants.{Port, Switch}
 use Rattle.lp_model.specs.declared.supply.Origin.{Origin}
@@ -25,6 +27,19 @@ pub record Asked : Type 0 where
   pub intent : Intent
   pub table : List Supply
   pub fuel : ℕ
+
+-- ---- F43 Limit: strategies, rows of the state table and origins
+
+-- the size of the text is asked by its reader
+abbrev pub is_over : Intent → model.Supplies → IntentLimit → Bool
+is_over i s limits.Strategies = nat_lt 4096 (length i.strategies)
+is_over i s limits.Rows = nat_lt 4096 (length s.rows)
+is_over i s limits.Origins = nat_lt 1024 (length s.origins)
+is_over i s limits.Bytes = false
+
+-- limits 2, 3 and 4
+abbrev pub intent_limits : Intent → model.Supplies → Line IntentLimit
+intent_limits i s = record { places = limits.Strategies ∷ limits.Rows ∷ limits.Origins ∷ []; test = is_over i s }
 
 -- ---- F37 Undriven
 

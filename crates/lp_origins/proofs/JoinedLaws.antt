@@ -32,23 +32,23 @@ supply-self (NetAt a) = scoped-self a
 
 -- ---- members of lists
 
-among-in : (a : Supply) (group : List Supply) → is_among a group ≡ true → IsIn a group
+pub among-in : (a : Supply) (group : List Supply) → is_among a group ≡ true → IsIn a group
 among-in a [] e = absurd (false≢true e)
 among-in a (b ∷ group) e = elim (or_cases (same_supply a b) (is_among a group) e) [ inl here ↦ inl (supply-true a b here) | inr rest ↦ inr (among-in a group rest) ]
 
-in-among : (a : Supply) (group : List Supply) → IsIn a group → is_among a group ≡ true
+pub in-among : (a : Supply) (group : List Supply) → IsIn a group → is_among a group ≡ true
 in-among a [] h = absurd h
 in-among a (b ∷ group) h = elim h [ inl is ↦ or_left (same_supply a b) (is_among a group) (ap (λ x. same_supply a x) (sym is) ∙ supply-self a) | inr rest ↦ or_right (same_supply a b) (is_among a group) (in-among a group rest) ]
 
-in-left : (a : Supply) (xs ys : List Supply) → IsIn a xs → IsIn a (xs ++ ys)
+pub in-left : (a : Supply) (xs ys : List Supply) → IsIn a xs → IsIn a (xs ++ ys)
 in-left a [] ys h = absurd h
 in-left a (x ∷ xs) ys h = elim h [ inl is ↦ inl is | inr rest ↦ inr (in-left a xs ys rest) ]
 
-in-right : (a : Supply) (xs ys : List Supply) → IsIn a ys → IsIn a (xs ++ ys)
+pub in-right : (a : Supply) (xs ys : List Supply) → IsIn a ys → IsIn a (xs ++ ys)
 in-right a [] ys h = h
 in-right a (x ∷ xs) ys h = inr (in-right a xs ys h)
 
-in-either : (a : Supply) (xs ys : List Supply) → IsIn a (xs ++ ys) → IsIn a xs ⊎ IsIn a ys
+pub in-either : (a : Supply) (xs ys : List Supply) → IsIn a (xs ++ ys) → IsIn a xs ⊎ IsIn a ys
 in-either a [] ys h = inr h
 in-either a (x ∷ xs) ys h = elim h [
   | inl is ↦ inl (inl is)
@@ -165,7 +165,7 @@ module _ (commands : List Command) where
 
   -- ---- what is found
 
-  in-added : (more group : List Supply) (b : Supply) → IsIn b (added group more) → IsIn b group ⊎ IsIn b more
+  pub in-added : (more group : List Supply) (b : Supply) → IsIn b (added group more) → IsIn b group ⊎ IsIn b more
   in-added [] group b h = inl h
   in-added (a ∷ more) group b h = by (is_among a group) (λ g. in-added more g b) h
     where
@@ -184,7 +184,7 @@ module _ (commands : List Command) where
       by true kept = kept group h
       by false kept = kept (group ++ a ∷ []) (in-left b group (a ∷ []) h)
 
-  from-group : (group : List Supply) (b : Supply) → IsIn b (flat_map (neighbours commands) group) → (a : Supply) × IsIn a group × (connected commands a b ≡ true)
+  pub from-group : (group : List Supply) (b : Supply) → IsIn b (flat_map (neighbours commands) group) → (a : Supply) × IsIn a group × (connected commands a b ≡ true)
   from-group [] b h = absurd h
   from-group (a ∷ group) b h = elim (in-either b (neighbours commands a) (flat_map (neighbours commands) group) h) [
     | inl here ↦ (a, inl refl, of-neighbour commands a b here)
@@ -202,7 +202,7 @@ module _ (commands : List Command) where
   self-found zero a = inl refl
   self-found (suc fuel) a = kept-added (flat_map (neighbours commands) (group_of commands fuel a)) (group_of commands fuel a) a (self-found fuel a)
 
-  all-in : (p : Supply → Bool) (xs : List Supply) (b : Supply) → list_all p xs ≡ true → IsIn b xs → p b ≡ true
+  pub all-in : (p : Supply → Bool) (xs : List Supply) (b : Supply) → list_all p xs ≡ true → IsIn b xs → p b ≡ true
   all-in p [] b e h = absurd h
   all-in p (x ∷ xs) b e h = elim h [ inl is ↦ ap p is ∙ (and_parts (p x) (list_all p xs) e).0 | inr rest ↦ all-in p xs b (and_parts (p x) (list_all p xs) e).1 rest ]
 

@@ -1,3 +1,4 @@
 mod Computed
 pub mod JoinedLaws
 pub mod OneOrigin
+pub mod WholeGroups

@@ -1,5 +1,5 @@
 //! Laws that show that the definitions say what is meant: each is the clause of a function that does nothing.
-ghost use Rattle.std.specs.Prelude.{◌≡◌, ◌↔◌, ℕ, List, Some, IsTrue, true};
+ghost use Rattle.std.specs.Prelude.{◌≡◌, ◌≤◌, ◌↔◌, ℕ, List, length, Some, IsTrue, true};
 ghost use Rattle.lp_origins.specs.Commands.{Supply, Command};
 ghost use Rattle.lp_origins.specs.Groups.{Joined, connected, group_of, is_among, is_closed};
 ghost use Rattle.lp_origins.specs.Origins.{IsOneOrigin, origin_of};
@@ -21,4 +21,10 @@ pub fn a_closed_group_is_all()
 /// origin.
 pub fn one_origin()
     ensures { (commands : List Command) (fuel : ℕ) (a : Supply) (o : ℕ) → is_closed commands (group_of commands fuel a) ≡ true → origin_of commands fuel a ≡ Some o → IsOneOrigin commands a o }
+{}
+
+/// Nothing leads out of the group that is found from a port or net, where the fuel is the number of ports and nets: of a
+/// list that has all that some command connects, or more.
+pub fn a_whole_group_is_closed()
+    ensures { (commands : List Command) (all : List Supply) (fuel : ℕ) (a : Supply) → ((x y : Supply) → connected commands x y ≡ true → is_among y all ≡ true) → length all ≤ fuel → is_closed commands (group_of commands fuel a) ≡ true }
 {}

@@ -3,4 +3,6 @@
 
 mod laws;
 
-pub use laws::{a_closed_group_is_all, joined_is_an_equivalence, one_origin};
+pub use laws::{
+    a_closed_group_is_all, a_whole_group_is_closed, joined_is_an_equivalence, one_origin,
+};

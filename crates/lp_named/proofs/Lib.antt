@@ -1,0 +1,7 @@
+mod Computed
+mod ComputedRoutes
+mod ComputedShared
+mod ComputedSupplies
+mod Digits
+mod Implemented
+mod Shapes
