@@ -15,10 +15,9 @@ use Rattle.lp_model.specs.LibraryView.{CellView, cell_view, library_view, librar
 use Rattle.lp_cells.specs.Cells.{cell_names}
 use Rattle.lp_cells.specs.Reasons.{repeated}
 use Rattle.lp_verilog_tokens.specs.Lexical.{is_visible}
-use Rattle.lp_small.specs.Names.{Name, is_simple_name, begins_with_letter, is_reserved}
-use Rattle.lp_small.specs.Liberty.{is_free_name}
+use Rattle.lp_small.specs.Names.{Name, is_simple_name, begins_with_letter, is_reserved, is_free_name}
 use Rattle.lp_small.specs.declared.intent.Intent.{Intent}
-use Rattle.lp_single.specs.Single.{is_single_module}
+use Rattle.lp_single.specs.Fits.{are_read}
 use Rattle.lp_single.specs.Flats.{HasLoop, IsOrdered, flat_of}
 use Rattle.lp_flat.specs.Designs.{Flat}
 use Rattle.lp_index.proofs.Numbers.{below-left, below-right}
@@ -98,7 +97,7 @@ module _ (libs : List (List ℕ)) (netlist upf : List ℕ) where
   exit-one P cells modules c m stops.NoMemory h = tt
 
   module _ (cells : List CellView) (m : ModuleView) (has : HasCells libs cells) (modules : List ModuleView) (read : HasModules netlist modules) (one : IsOne modules m) where
-    both : ReadsBoth inputs cells m
+    pub both : ReadsBoth inputs cells m
     both = record { libraries = has; netlist = subst (HasModules netlist) one.one read; single = one.single }
 
     fit : Fitting cells m → FitsCells inputs cells m
@@ -112,7 +111,7 @@ module _ (libs : List (List ℕ)) (netlist upf : List ℕ) where
         let all : ReadsAll inputs cells m u.under = record { fit = fit f; intent = u.intent } in
         elim u.unsound.why [
           | inl e ↦ not_plain cells m u.under all e u.unsound.spelled
-          | inr r ↦ loop cells m u.under 0 all r.0 (r.1 u.under.power u.under.gnd 0 (not-true (bytes_eq u.under.power u.under.gnd) u.intent.apart)) u.unsound.spelled
+          | inr r ↦ loop cells m u.under 0 all r.0 (r.1 u.under.power u.under.gnd 0) u.unsound.spelled
         ]
 
     pub exit-judge : (s : Stop) → OrStop (Judged cells m upf) (Unjudged cells m upf) (Err s) → Answer s
@@ -120,21 +119,20 @@ module _ (libs : List (List ℕ)) (netlist upf : List ℕ) where
     exit-judge stops.NoMemory h = tt
 
   -- what is judged is accepted
-  pub accepted : (none : (f : Flat) → IsOrdered f → HasLoop f → ⊥) (a : Accepted) → IsCells a.names libs a.library → length a.library.cells ≤ 1140850689 → length a.names ≤ 1140850689
+  pub accepted : (none : (f : Flat) → IsOrdered f → HasLoop f → ⊥) → ((cells : List CellView) (m : ModuleView) → ReadsBoth inputs cells m → are_read cells m ≡ true) → (a : Accepted) → IsCells a.names libs a.library → length a.library.cells ≤ 1140850689 → length a.names ≤ 1140850689
       → (modules : List ModuleView) → HasModules netlist modules → IsOne modules (source_of a) → numbers_below (length a.names) (module_numbers a.source) ≡ true → Judged (cells_of a) (source_of a) upf a.intent → IsAccepted inputs a
-  accepted none a cells few_cells few_names modules read one below j =
-      let apart = not-true (bytes_eq a.intent.power a.intent.gnd) j.intent.apart in
-      record {
-        accepts = record {
-          all = record { fit = fit (cells_of a) (source_of a) cells.has modules read one j.fitting; intent = j.intent };
-          plain = j.sound.plain;
-          no_loop = λ margin. none (flat_by a margin) (j.sound.ordered a.intent.power a.intent.gnd margin apart);
-        };
-        ordered = λ margin. j.sound.ordered a.intent.power a.intent.gnd margin apart;
-        cells_below = cells.below;
-        source_below = below;
-        few_names = few_names;
-        few_cells = few_cells;
-        power_visible = free-visible a.intent.power j.intent.power_free;
-        gnd_visible = free-visible a.intent.gnd j.intent.gnd_free;
-      }
+  accepted none readable a cells few_cells few_names modules read one below j = record {
+    accepts = record {
+      all = record { fit = fit (cells_of a) (source_of a) cells.has modules read one j.fitting; intent = j.intent };
+      plain = j.sound.plain;
+      no_loop = λ margin. none (flat_by a margin) (j.sound.ordered a.intent.power a.intent.gnd margin);
+    };
+    read = readable (cells_of a) (source_of a) (both (cells_of a) (source_of a) cells.has modules read one);
+    ordered = λ margin. j.sound.ordered a.intent.power a.intent.gnd margin;
+    cells_below = cells.below;
+    source_below = below;
+    few_names = few_names;
+    few_cells = few_cells;
+    power_visible = free-visible a.intent.power j.intent.power_free;
+    gnd_visible = free-visible a.intent.gnd j.intent.gnd_free;
+  }

@@ -2,8 +2,8 @@
 use Rattle.std.proofs.Common.{◌≡◌, ℕ, ◌+◌, ◌≤◌, ◌<◌, Bool, true, false, List, [], ◌∷◌, ◌++◌, map, length, Option, Some, None, ◌⊎◌, inl, inr, refl, sym, ap, ◌∙◌, subst, arith}
 use Rattle.std.specs.Prelude.{Err, ◌&&◌, flat_map, bytes_eq, ltb, not, is_none}
 use Rattle.std.specs.List.{list_all}
-use Rattle.std.proofs.lemmas.Bool.{and_parts, true≢false, both_ways, cases_Bool, not-true}
-use Rattle.std.proofs.lemmas.List.{append-nil, map-append, length-append, length-map}
+use Rattle.std.proofs.lemmas.Bool.{and_parts, true≢false}
+use Rattle.std.proofs.lemmas.List.{map-append, length-append, length-map}
 use Rattle.lp_text.specs.Texts.{text_at, distinct, distinct-append_left}
 use Rattle.lp_model.specs.Agreement.{numbers_below}
 use Rattle.lp_model.specs.FaultLines.{fault_line}
@@ -19,10 +19,11 @@ use Rattle.lp_small.specs.declared.intent.Intent.{Intent}
 use Rattle.lp_small.specs.Upf.{IsIntent}
 use Rattle.lp_cells.specs.Reasons.{repeated}
 use Rattle.lp_index.proofs.Numbers.{below-left, below-right, below-tail}
-use Rattle.lp_vwrite.specs.WellFormed.{is_module, names_of, is_name, is_net, is_instance, is_assign}
+use Rattle.lp_vwrite.specs.WellFormed.{names_of, is_name, is_net, is_assign}
+use Rattle.lp_vwrite.specs.Sound.{is_read_instance, is_read_module}
 use Rattle.lp_vwrite.specs.Layout.{declared}
 use Rattle.lp_single.specs.Single.{is_single, is_single_module}
-use Rattle.lp_single.specs.Fits.{first_unknown, is_fit, are_plain, cell_named, is_joined, driven_nets}
+use Rattle.lp_single.specs.Fits.{first_unknown, is_fit, are_plain, is_read_cell, are_read}
 use Rattle.lp_single.specs.Flats.{flat_of, HasLoop, IsOrdered}
 use Rattle.lp_insertion.specs.Faults.{not_yet, unknown_module}
 use Rattle.lp_accept.specs.declared.stop.Stop.{Stop}
@@ -35,9 +36,6 @@ use Rattle.lp_accept.proofs.Few.{few-distinct}
 pub stops-line : {T : Type 0} (P : T → Type 0) (Q : List ℕ → Type 0) (line : List ℕ) (s : Stop) → IsLine line s → Q line → OrStop P Q (Err s)
 stops-line P Q line (stops.Fault l) e q = subst Q (sym e) q
 stops-line P Q line stops.NoMemory e q = tt
-
-pub unknown-line : (m x : List ℕ) → unknown_module m (x ++ []) ≡ unknown_module m x
-unknown-line m x = ap (unknown_module m) (append-nil x)
 
 -- ---- one module
 
@@ -56,7 +54,7 @@ one-below names ms rest m e b = by rest (subst (λ x. numbers_below (length name
 pub none-single : (names : List (List ℕ)) (ms : List Module) → ms ≡ [] → is_single (map (module_view names) ms) ≡ true → ⊥
 none-single names ms e h = true≢false (sym h ∙ ap (λ x. is_single (map (module_view names) x)) e)
 
--- ---- more nets than names
+-- ---- no more nets than names
 
 module _ (names : List (List ℕ)) where
   net-numbers : Module → List ℕ
@@ -104,14 +102,15 @@ module _ (names : List (List ℕ)) where
       joined k [] ys h g = g
       joined k (x ∷ xs) ys h g = let parts = and_parts (ltb x k) (numbers_below k xs) h in ap (λ b. b && numbers_below k (xs ++ ys)) parts.0 ∙ joined k xs ys parts.1 g
 
-  -- a module that can be written has no more nets than the table has names
-  pub few-nets : (m : Module) → numbers_below (length names) (module_numbers m) ≡ true → is_module (module_view names m) ≡ true → length m.ports + length m.nets ≤ length names
+  -- a module that was read has no more nets than the table has names
+  few-nets : (m : Module) → numbers_below (length names) (module_numbers m) ≡ true → is_read_module (module_view names m) ≡ true → length m.ports + length m.nets ≤ length names
   unfolding net-numbers
   few-nets m b h =
       let v = module_view names m in
-      let g0 = and_parts (is_name v.name) (list_all is_net (declared v) && (distinct (names_of v) && (list_all (is_instance (declared v)) v.instances && list_all (is_assign (declared v)) v.assigns))) h in
-      let g1 = and_parts (list_all is_net (declared v)) (distinct (names_of v) && (list_all (is_instance (declared v)) v.instances && list_all (is_assign (declared v)) v.assigns)) g0.1 in
-      let g2 = and_parts (distinct (names_of v)) (list_all (is_instance (declared v)) v.instances && list_all (is_assign (declared v)) v.assigns) g1.1 in
+      let behind_apart = list_all (is_read_instance (declared v)) v.instances && list_all (is_assign (declared v)) v.assigns in
+      let g0 = and_parts (is_name v.name) (list_all is_net (declared v) && (distinct (names_of v) && behind_apart)) h in
+      let g1 = and_parts (list_all is_net (declared v)) (distinct (names_of v) && behind_apart) g0.1 in
+      let g2 = and_parts (distinct (names_of v)) behind_apart g1.1 in
       let apart = distinct-append_left (map first (declared v)) (map (λ (i : InstanceView). i.name) v.instances) g2.0 in
       let few = few-distinct names (length names) (net-numbers m) (ap distinct (sym (texts-of m)) ∙ apart) (numbers-below m b) in
       let e = length-append (map (λ (p : Port). p.name.0) m.ports) (map (λ (n : NetDecl). n.name.0) m.nets) in
@@ -119,19 +118,8 @@ module _ (names : List (List ℕ)) where
       let n = length-map m.nets (λ (x : NetDecl). x.name.0) in
       omega (arith, few, e, p, n)
 
-  pub fit-few : (cells : List CellView) (m : Module) → numbers_below (length names) (module_numbers m) ≡ true → is_fit cells (module_view names m) ≡ true → length m.ports + length m.nets ≤ length names
-  fit-few cells m b e =
-      let v = module_view names m in
-      let parts = and_parts (is_none (cell_named cells v.name)) (list_all (λ x. is_joined x (cell_named cells x.target)) v.instances && (distinct (driven_nets cells v) && is_module v)) e in
-      let more_parts = and_parts (list_all (λ x. is_joined x (cell_named cells x.target)) v.instances) (distinct (driven_nets cells v) && is_module v) parts.1 in
-      few-nets m b (and_parts (distinct (driven_nets cells v)) (is_module v) more_parts.1).1
-
-  pub too-many : (cells : List CellView) (m : Module) → numbers_below (length names) (module_numbers m) ≡ true → length names < length m.ports + length m.nets → is_fit cells (module_view names m) ≡ false
-  too-many cells m b more =
-      elim (cases_Bool (is_fit cells (module_view names m))) [
-        | inr e ↦ e
-        | inl e ↦ let few = fit-few cells m b e in absurd (omega (arith, few, more))
-      ]
+  pub read-few : (cells : List CellView) (m : Module) → numbers_below (length names) (module_numbers m) ≡ true → are_read cells (module_view names m) ≡ true → length m.ports + length m.nets ≤ length names
+  read-few cells m b e = few-nets m b (and_parts (list_all is_read_cell cells) (is_read_module (module_view names m)) e).1
 
 -- ---- the stages joined
 

@@ -1,5 +1,5 @@
 -- The judging stages: a module and its intent against the cells.
-use Rattle.std.specs.Prelude.{◌≡◌, ℕ, ◌≤◌, ◌⊎◌, true, false, List, [], ◌∷◌, map, length, Some, None, bytes_eq}
+use Rattle.std.specs.Prelude.{◌≡◌, ℕ, ◌≤◌, ◌⊎◌, true, false, List, [], ◌∷◌, map, length, Some, None}
 use Rattle.std.specs.List.{list_all}
 use Rattle.lp_model.specs.Agreement.{numbers_below}
 use Rattle.lp_model.specs.NetlistView.{InstanceView, ModuleView, module_view, module_numbers}
@@ -10,7 +10,7 @@ use Rattle.lp_verilog_tokens.specs.Lexical.{is_visible}
 use Rattle.lp_small.specs.declared.intent.Intent.{Intent}
 use Rattle.lp_small.specs.Upf.{IsIntent}
 use Rattle.lp_single.specs.Single.{is_single, is_single_module}
-use Rattle.lp_single.specs.Fits.{first_unknown, is_fit, are_plain}
+use Rattle.lp_single.specs.Fits.{first_unknown, is_fit, are_plain, are_read}
 use Rattle.lp_single.specs.Flats.{flat_of, HasLoop, IsOrdered}
 use Rattle.lp_insertion.specs.Inputs.{Inputs, Accepts}
 use Rattle.lp_insertion.specs.Faults.{not_yet, unknown_module}
@@ -48,10 +48,10 @@ NoIntent text line = ((i : Intent) → IsIntent text i → ⊥) × (line ≡ not
 
 -- plain cells, and an order of what reads what, whatever the supply ports are called
 abbrev pub Ordered : List CellView → ModuleView → Type 0
-Ordered cells m = (power gnd : Name) (margin : ℕ) → bytes_eq power gnd ≡ false → IsOrdered (flat_of cells m power gnd margin)
+Ordered cells m = (power gnd : Name) (margin : ℕ) → IsOrdered (flat_of cells m power gnd margin)
 
 abbrev pub Looped : List CellView → ModuleView → Type 0
-Looped cells m = (power gnd : Name) (margin : ℕ) → bytes_eq power gnd ≡ false → HasLoop (flat_of cells m power gnd margin)
+Looped cells m = (power gnd : Name) (margin : ℕ) → HasLoop (flat_of cells m power gnd margin)
 
 pub record Sound (cells : List CellView) (m : ModuleView) : Type 0 where
   pub plain : are_plain cells m ≡ true
@@ -89,6 +89,7 @@ flat_by a margin = flat_of (cells_of a) (source_of a) a.intent.power a.intent.gn
 -- inputs without fault, with an order of what reads what, over a table that has all numbers
 pub record IsAccepted (inputs : Inputs) (a : Accepted) : Type 0 where
   pub accepts : Accepts inputs (cells_of a) (source_of a) a.intent
+  pub read : are_read (cells_of a) (source_of a) ≡ true
   pub ordered : (margin : ℕ) → IsOrdered (flat_by a margin)
   pub cells_below : numbers_below (length a.names) (library_numbers a.library) ≡ true
   pub source_below : numbers_below (length a.names) (module_numbers a.source) ≡ true

@@ -8,6 +8,7 @@ use crate::judge::{judge, one_module};
 use crate::libraries::read_library;
 use crate::netlist::read_modules;
 use crate::stop::Stop;
+use lp_insertion::inputs_are_read;
 use lp_model::{Library, Module};
 use lp_single::ordered_has_no_loop;
 use lp_small::Intent;
@@ -39,6 +40,7 @@ pub fn accept(alloc: Global, libs: &[Bytes], netlist: &[u8], upf: &[u8]) -> Resu
     ensures { OrStop (IsAccepted (inputs_of libs.now netlist.now upf.now)) (FirstFault (inputs_of libs.now netlist.now upf.now)) result }
 {
     ordered_has_no_loop();
+    inputs_are_read();
     let mut names = Names::new(alloc)?;
     let library = match read_library(alloc, &mut names, libs) {
         Ok(library) => library,

@@ -1,4 +1,4 @@
-ghost use Rattle.std.specs.Prelude.{◌≡◌, ◌≤◌, ◌+◌, [], ◌∷◌, length, map, nat_lt, true};
+ghost use Rattle.std.specs.Prelude.{◌≡◌, ◌≤◌, ◌+◌, [], ◌∷◌, length, map, true};
 ghost use Rattle.std.specs.List.{flat_map};
 ghost use Rattle.lp_text.specs.Texts.{text_at};
 ghost use Rattle.lp_model.specs.Agreement.{numbers_below};
@@ -6,6 +6,7 @@ ghost use Rattle.lp_model.specs.LibraryView.{cell_view, cell_numbers};
 ghost use Rattle.lp_model.specs.NetlistView.{module_view, netlist_view, module_numbers, netlist_numbers};
 ghost use Rattle.lp_small.specs.Upf.{IsIntent};
 ghost use Rattle.lp_single.specs.Single.{is_single_module};
+ghost use Rattle.lp_single.specs.Fits.{are_read};
 ghost use Rattle.lp_insertion.specs.Faults.{not_yet as line_not_yet, unknown_module as line_unknown};
 ghost use Rattle.lp_accept.specs.Stages.{IsLine, OrStop};
 ghost use Rattle.lp_accept.specs.Judged.{IsOne, IsNotOne, Fitting, Misfits, NoIntent, Sound, Unsound, Judged, Unjudged};
@@ -55,17 +56,6 @@ pub(crate) fn one_module(alloc: Global, names: &Names, netlist: Netlist) -> Resu
     }
 }
 
-/// Whether there are more nets than names: then some name stands twice.
-fn has_more_nets(names: &Names, source: &Module) -> bool
-    ensures { result ≡ nat_lt (length names.now) (length source.now.ports + length source.now.nets) }
-{
-    let count = names.count() as usize;
-    match count.checked_sub(source.ports.len()) {
-        Some(left) => left < source.nets.len(),
-        None => true,
-    }
-}
-
 /// Whether a module fits the cells.
 fn check_fit(
     alloc: Global,
@@ -75,14 +65,12 @@ fn check_fit(
 ) -> Result<(), Stop>
     requires cells { numbers_below (length names.now) (flat_map cell_numbers index.now) ≡ true }
     requires source { numbers_below (length names.now) (module_numbers source.now) ≡ true }
-    requires single { is_single_module (module_view names.now source.now) ≡ true }
-    requires few { length names.now ≤ 1140850689 }
     ensures { OrStop (λ _. Fitting (map (cell_view names.now) index.now) (module_view names.now source.now)) (Misfits (map (cell_view names.now) index.now) (module_view names.now source.now)) result }
 {
     if let Some(instance) = unknown_target(index, names, source) {
         return Err(unknown(alloc, names, source, instance));
     }
-    if has_more_nets(names, source) || !is_fit(alloc, index, names, source)? {
+    if !is_fit(alloc, index, names, source)? {
         return Err(not_yet(alloc, names, 4));
     }
     Ok(())
@@ -108,6 +96,7 @@ fn check_sound(
     requires cells { numbers_below (length names.now) (flat_map cell_numbers index.now) ≡ true }
     requires source { numbers_below (length names.now) (module_numbers source.now) ≡ true }
     requires single { is_single_module (module_view names.now source.now) ≡ true }
+    requires read { are_read (map (cell_view names.now) index.now) (module_view names.now source.now) ≡ true }
     requires fits { Fitting (map (cell_view names.now) index.now) (module_view names.now source.now) }
     requires few { length names.now ≤ 1140850689 }
     ensures { OrStop (λ _. Sound (map (cell_view names.now) index.now) (module_view names.now source.now)) (Unsound (map (cell_view names.now) index.now) (module_view names.now source.now)) result }
@@ -134,6 +123,7 @@ pub(crate) fn judge(
     requires cells { numbers_below (length names.now) (flat_map cell_numbers cells.now) ≡ true }
     requires source { numbers_below (length names.now) (module_numbers source.now) ≡ true }
     requires single { is_single_module (module_view names.now source.now) ≡ true }
+    requires read { are_read (map (cell_view names.now) cells.now) (module_view names.now source.now) ≡ true }
     requires few { length names.now ≤ 1140850689 }
     requires few_cells { length cells.now ≤ 1140850689 }
     ensures { OrStop (Judged (map (cell_view names.now) cells.now) (module_view names.now source.now) upf.now) (Unjudged (map (cell_view names.now) cells.now) (module_view names.now source.now) upf.now) result }

@@ -15,8 +15,6 @@ use Rattle.lp_model.specs.declared.netlist.Connections.TheVariants.{Named, Order
 use Rattle.lp_model.specs.declared.netlist.Instance.{Instance}
 use Rattle.lp_model.specs.LibraryView.{PgPinView, PinView, pg_pin_view, pg_pin_numbers, pin_view, pin_numbers, state_numbers, roles_numbers, expr_view, cell_view, cell_numbers}
 use Rattle.lp_model.specs.NetlistView.{ConnectionView, InstanceView, connection_view, connection_numbers, connections_view, connections_numbers, instance_view, instance_numbers}
-use Rattle.lp_flat.specs.Tests as flats
-use Rattle.lp_vwrite.specs.WellFormed.{is_name}
 use Rattle.lp_single.specs.Fits as fits
 use Rattle.lp_index.specs.Cells.{cell_numbered}
 use Rattle.lp_index.proofs.Numbers.{below-left, below-right, below-head, below-tail, same_name}
@@ -34,29 +32,6 @@ abbrev pub Below : List (List ℕ) → List ℕ → Type 0
 Below texts ns = numbers_below (length texts) ns ≡ true
 
 module _ (texts : List (List ℕ)) (apart : distinct texts ≡ true) where
-  -- ---- power and ground pins
-
-  pg_same : (gs : List PgPin) (n : ℕ) → n < length texts → Below texts (flat_map pg_pin_numbers gs) → flats.is_pg_name (map (pg_pin_view texts) gs) (text_at texts n) ≡ numbered.has_pg n gs
-  pg_same [] n l below = refl
-  pg_same (g ∷ gs) n l below =
-      let here = below-left (length texts) (pg_pin_numbers g) (flat_map pg_pin_numbers gs) below in
-      let behind = below-right (length texts) (pg_pin_numbers g) (flat_map pg_pin_numbers gs) below in
-      λ i. same_name texts apart g.name.0 n (below-head (length texts) g.name.0 _ here) l i || pg_same gs n l behind i
-
-  pgs_distinct : (gs : List PgPin) → Below texts (flat_map pg_pin_numbers gs) → flats.are_distinct (map (pg_pin_view texts) gs) ≡ numbered.are_pgs_distinct gs
-  pgs_distinct [] below = refl
-  pgs_distinct (g ∷ gs) below =
-      let here = below-left (length texts) (pg_pin_numbers g) (flat_map pg_pin_numbers gs) below in
-      let behind = below-right (length texts) (pg_pin_numbers g) (flat_map pg_pin_numbers gs) below in
-      λ i. not (pg_same gs g.name.0 (below-head (length texts) g.name.0 _ here) behind i) && pgs_distinct gs behind i
-
-  no_pg : (pins : List Pin) (gs : List PgPin) → Below texts (flat_map pin_numbers pins) → Below texts (flat_map pg_pin_numbers gs) → list_all (λ (q : PinView). not (flats.is_pg_name (map (pg_pin_view texts) gs) q.name)) (map (pin_view texts) pins) ≡ list_all (λ (q : Pin). not (numbered.has_pg q.name.0 gs)) pins
-  no_pg [] gs below pgs = refl
-  no_pg (q ∷ pins) gs below pgs =
-      let here = below-left (length texts) (pin_numbers q) (flat_map pin_numbers pins) below in
-      let behind = below-right (length texts) (pin_numbers q) (flat_map pin_numbers pins) below in
-      λ i. not (pg_same gs q.name.0 (below-head (length texts) q.name.0 _ here) pgs i) && no_pg pins gs behind pgs i
-
   pub pins_below : (c : Cell) → Below texts (cell_numbers c) → Below texts (flat_map pin_numbers c.pins)
   pins_below c below =
       let pgs = flat_map pg_pin_numbers c.pgs in
@@ -64,21 +39,13 @@ module _ (texts : List (List ℕ)) (apart : distinct texts ≡ true) where
       let rest = option_numbers state_numbers c.state ++ roles_numbers c.roles in
       below-left (length texts) pins rest (below-right (length texts) pgs (pins ++ rest) (below-tail (length texts) c.name.0 (pgs ++ (pins ++ rest)) below))
 
-  pgs_below : (c : Cell) → Below texts (cell_numbers c) → Below texts (flat_map pg_pin_numbers c.pgs)
-  pgs_below c below =
-      let pgs = flat_map pg_pin_numbers c.pgs in
-      let rest = flat_map pin_numbers c.pins ++ (option_numbers state_numbers c.state ++ roles_numbers c.roles) in
-      below-left (length texts) pgs rest (below-tail (length texts) c.name.0 (pgs ++ rest) below)
-
-  taken : (c : Cell) → Below texts (cell_numbers c) → fits.is_taken (cell_view texts c) ≡ numbered.is_taken texts c
-  taken c below =
+  taken : (c : Cell) → fits.is_taken (cell_view texts c) ≡ numbered.is_taken c
+  taken c =
       λ i. is_none c.unusable
       && (is_none c.roles.shifter
       && (none_same (expr_view texts) c.roles.retention i
       && (not c.roles.switch
-      && (list_all-map (λ (g : PgPinView). not (fits.is_extra g.kind)) (pg_pin_view texts) c.pgs i
-      && ((no_pg c.pins c.pgs (pins_below c below) (pgs_below c below) i && pgs_distinct c.pgs (pgs_below c below) i)
-      && list_all-map (λ (g : PgPinView). is_name g.name) (pg_pin_view texts) c.pgs i)))))
+      && list_all-map (λ (g : PgPinView). not (fits.is_extra g.kind)) (pg_pin_view texts) c.pgs i)))
 
   -- ---- connections
 
@@ -137,9 +104,9 @@ module _ (texts : List (List ℕ)) (apart : distinct texts ≡ true) where
       ap (λ ports. fits.names_pins ports (pin_names texts pins)) (connected_same cs)
       ∙ (λ i. alone_same (numbered.named cs) pins of_cs of_pins i && (once_same (numbered.named cs) of_cs i && all_same pins (numbered.named cs) of_pins of_cs i))
 
-  joined : (x : Instance) (o : Option Cell) → Below texts (instance_numbers x) → ((c : Cell) → o ≡ Some c → Below texts (cell_numbers c)) → fits.is_joined (instance_view texts x) (option_map (cell_view texts) o) ≡ numbered.is_joined texts x o
+  joined : (x : Instance) (o : Option Cell) → Below texts (instance_numbers x) → ((c : Cell) → o ≡ Some c → Below texts (cell_numbers c)) → fits.is_joined (instance_view texts x) (option_map (cell_view texts) o) ≡ numbered.is_joined x o
   joined x None below found = refl
-  joined x (Some c) below found = λ i. taken c (found c refl) i && each_once x.connections c.pins (connections_below x below) (pins_below c (found c refl)) i
+  joined x (Some c) below found = λ i. taken c i && each_once x.connections c.pins (connections_below x below) (pins_below c (found c refl)) i
 
   -- ---- cells
 
@@ -165,7 +132,7 @@ module _ (texts : List (List ℕ)) (apart : distinct texts ≡ true) where
           subst (λ x. Below texts (cell_numbers x)) same (below-left (length texts) (cell_numbers d) (flat_map cell_numbers cells) below)
       by false s rest = let there : cell_numbered cells n ≡ Some c = rw s at e in rest there
 
-  pub all_joined : (cells : List Cell) (xs : List Instance) → Below texts (flat_map cell_numbers cells) → Below texts (flat_map instance_numbers xs) → list_all (λ (x : InstanceView). fits.is_joined x (fits.cell_named (map (cell_view texts) cells) x.target)) (map (instance_view texts) xs) ≡ numbered.are_joined texts cells xs
+  pub all_joined : (cells : List Cell) (xs : List Instance) → Below texts (flat_map cell_numbers cells) → Below texts (flat_map instance_numbers xs) → list_all (λ (x : InstanceView). fits.is_joined x (fits.cell_named (map (cell_view texts) cells) x.target)) (map (instance_view texts) xs) ≡ numbered.are_joined cells xs
   all_joined cells [] of_cells below = refl
   all_joined cells (x ∷ xs) of_cells below =
       let here = below-left (length texts) (instance_numbers x) (flat_map instance_numbers xs) below in

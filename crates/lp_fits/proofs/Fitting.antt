@@ -9,33 +9,45 @@ use Rattle.lp_model.specs.declared.library.Cell.{Cell}
 use Rattle.lp_model.specs.declared.netlist.Instance.{Instance}
 use Rattle.lp_model.specs.declared.netlist.Module.{Module}
 use Rattle.lp_model.specs.LibraryView.{cell_view, cell_numbers}
-use Rattle.lp_model.specs.NetlistView.{instance_view, instance_numbers, module_view, module_numbers}
+use Rattle.lp_model.specs.NetlistView.{port_numbers, net_numbers, instance_view, instance_numbers, assign_numbers, module_view, module_numbers}
 use Rattle.lp_design.specs.Netlists.{first}
-use Rattle.lp_single.specs.Single as by_text
 use Rattle.lp_single.specs.Fits as fits
 use Rattle.lp_index.specs.Cells.{cell_numbered}
-use Rattle.lp_index.proofs.Numbers.{below-left, below-right, below-head, same_name}
+use Rattle.lp_index.proofs.Numbers.{below-left, below-right, below-head, below-tail, same_name}
 use Rattle.lp_fits.specs.Numbered as numbered
-use Rattle.lp_fits.specs.Scalars.{has_scalars, has_free_names}
 use Rattle.lp_fits.proofs.Lists.{none_same, some_if, distinct_same}
 use Rattle.lp_fits.proofs.Cells.{Below, cell_same, all_joined, target_below}
 use Rattle.lp_fits.proofs.Sources.{driven_same, sources_below}
-use Rattle.lp_fits.proofs.Modules.{ports_below, instances_below, module_same}
-use Rattle.lp_fits.proofs.Singles.{single_same}
 
 module _ (texts : List (List ℕ)) (apart : distinct texts ≡ true) (cells : List Cell) (of_cells : Below texts (flat_map cell_numbers cells)) where
+  -- ---- parts of a module
+
+  ports_below : (m : Module) → Below texts (module_numbers m) → Below texts (flat_map port_numbers m.ports)
+  ports_below m below =
+      let ports = flat_map port_numbers m.ports in
+      let rest = flat_map net_numbers m.nets ++ (flat_map instance_numbers m.instances ++ flat_map assign_numbers m.assigns) in
+      below-left (length texts) ports rest (below-tail (length texts) m.name.0 (ports ++ rest) below)
+
+  instances_below : (m : Module) → Below texts (module_numbers m) → Below texts (flat_map instance_numbers m.instances)
+  instances_below m below =
+      let ports = flat_map port_numbers m.ports in
+      let nets = flat_map net_numbers m.nets in
+      let instances = flat_map instance_numbers m.instances in
+      let rest = flat_map assign_numbers m.assigns in
+      below-left (length texts) instances rest (below-right (length texts) nets (instances ++ rest) (below-right (length texts) ports (nets ++ (instances ++ rest)) (below-tail (length texts) m.name.0 (ports ++ (nets ++ (instances ++ rest))) below)))
+
   -- ---- fits
 
-  fit_same : (m : Module) → has_scalars m ≡ true → Below texts (module_numbers m) → fits.is_fit (map (cell_view texts) cells) (module_view texts m) ≡ numbered.is_fit texts cells m
-  fit_same m single below =
+  fit_same : (m : Module) → Below texts (module_numbers m) → fits.is_fit (map (cell_view texts) cells) (module_view texts m) ≡ numbered.is_fit cells m
+  fit_same m below =
       let name = ap is_none (cell_same texts apart cells m.name.0 (below-head (length texts) m.name.0 _ below) of_cells) ∙ none_same (cell_view texts) (cell_numbered cells m.name.0) in
-      let of_instances = instances_below texts apart m below in
-      let sources = ap distinct (driven_same texts apart cells m of_cells of_instances) ∙ distinct_same texts apart (numbered.inputs m.ports ++ numbered.driven cells m.instances) (sources_below texts apart cells m (ports_below texts apart m below) of_instances) in
-      λ i. name i && (all_joined texts apart cells m.instances of_cells of_instances i && (sources i && module_same texts apart m single below i))
+      let of_instances = instances_below m below in
+      let sources = ap distinct (driven_same texts apart cells m of_cells of_instances) ∙ distinct_same texts apart (numbered.inputs m.ports ++ numbered.driven cells m.instances) (sources_below texts apart cells m (ports_below m below) of_instances) in
+      λ i. name i && (all_joined texts apart cells m.instances of_cells of_instances i && sources i)
 
-  pub if_fit : {E : Type 0} (r : Result Bool E) (m : Module) → by_text.is_single_module (module_view texts m) ≡ true → Below texts (module_numbers m) → IfOk r (λ b. b ≡ numbered.is_fit texts cells m) → IfOk r (λ b. b ≡ fits.is_fit (map (cell_view texts) cells) (module_view texts m))
-  if_fit (Ok b) m single below e = e ∙ sym (fit_same m (and_parts (has_scalars m) (has_free_names texts m) (sym (single_same texts m) ∙ single)).0 below)
-  if_fit (Err x) m single below e = tt
+  pub if_fit : {E : Type 0} (r : Result Bool E) (m : Module) → Below texts (module_numbers m) → IfOk r (λ b. b ≡ numbered.is_fit cells m) → IfOk r (λ b. b ≡ fits.is_fit (map (cell_view texts) cells) (module_view texts m))
+  if_fit (Ok b) m below e = e ∙ sym (fit_same m below)
+  if_fit (Err x) m below e = tt
 
   -- ---- unknown targets
 
@@ -56,4 +68,4 @@ module _ (texts : List (List ℕ)) (apart : distinct texts ≡ true) (cells : Li
   pub unknown : (m : Module) (r : Option (Bor Instance)) → Below texts (module_numbers m) → option_copied r ≡ first (λ (x : Instance). not (m.name.0 == x.target.0) && is_none (cell_numbered cells x.target.0)) m.instances → option_map (λ x. instance_view texts x.now) r ≡ fits.first_unknown (map (cell_view texts) cells) (module_view texts m)
   unknown m r below e =
       copied r ∙ ap (option_map (instance_view texts)) e
-      ∙ sym (unknown_same m m.instances (below-head (length texts) m.name.0 _ below) (instances_below texts apart m below))
+      ∙ sym (unknown_same m m.instances (below-head (length texts) m.name.0 _ below) (instances_below m below))

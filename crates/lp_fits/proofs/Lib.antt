@@ -3,5 +3,4 @@ mod Singles
 mod Lists
 mod Cells
 mod Sources
-mod Modules
 mod Fitting

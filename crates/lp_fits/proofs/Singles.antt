@@ -17,10 +17,10 @@ use Rattle.lp_model.specs.declared.netlist.Instance.{Instance}
 use Rattle.lp_model.specs.declared.netlist.Assign.{Assign}
 use Rattle.lp_model.specs.declared.netlist.Module.{Module}
 use Rattle.lp_model.specs.NetlistView.{PortView, NetView, ConnectionView, bits_view, port_view, net_view, connection_view, instance_view, assign_view, module_view}
+use Rattle.lp_flat.specs.Tests as flat
 use Rattle.lp_vwrite.specs.Layout.{declared}
 use Rattle.lp_vwrite.specs.WellFormed.{names_of}
 use Rattle.lp_single.specs.Single as by_text
-use Rattle.lp_fits.specs.Numbered as numbered
 use Rattle.lp_fits.specs.Scalars.{is_one_net, are_one_nets, is_free, has_no_assign, has_free_names, is_single_module}
 
 module _ (texts : List (List ℕ)) where
@@ -45,7 +45,7 @@ module _ (texts : List (List ℕ)) where
   single_instances [] = refl
   single_instances (x ∷ xs) = λ i. single_instance x x.connections refl i && single_instances xs i
 
-  no_assign : (assigns : List Assign) → by_text.has_no_assign (map (assign_view texts) assigns) ≡ has_no_assign assigns
+  no_assign : (assigns : List Assign) → flat.has_no_assign (map (assign_view texts) assigns) ≡ has_no_assign assigns
   no_assign [] = refl
   no_assign (a ∷ rest) = refl
 
@@ -63,16 +63,19 @@ module _ (texts : List (List ℕ)) where
   instances_named [] = refl
   instances_named (x ∷ xs) = ap (λ names. text_at texts x.name.0 ∷ names) (instances_named xs)
 
+  abbrev declared_numbers : Module → List ℕ
+  declared_numbers m = map (λ (p : Port). p.name.0) m.ports ++ map (λ (n : NetDecl). n.name.0) m.nets
+
   -- the names of ports and nets
-  pub declared_named : (m : Module) → map (λ (n : List ℕ × Option BitRange). n.0) (declared (module_view texts m)) ≡ map (text_at texts) (numbered.declared m)
+  declared_named : (m : Module) → map (λ (n : List ℕ × Option BitRange). n.0) (declared (module_view texts m)) ≡ map (text_at texts) (declared_numbers m)
   declared_named m =
       map-append (λ (n : List ℕ × Option BitRange). n.0) (map (λ p. (p.name, p.range)) (map (port_view texts) m.ports)) (map (λ n. (n.name, n.range)) (map (net_view texts) m.nets))
       ∙ (λ i. ports_named m.ports i ++ nets_named m.nets i)
       ∙ sym (map-append (text_at texts) (map (λ p. p.name.0) m.ports) (map (λ n. n.name.0) m.nets))
 
   -- and of instances
-  pub all_named : (m : Module) → names_of (module_view texts m) ≡ map (text_at texts) (numbered.declared m ++ map (λ x. x.name.0) m.instances)
-  all_named m = (λ i. declared_named m i ++ instances_named m.instances i) ∙ sym (map-append (text_at texts) (numbered.declared m) (map (λ x. x.name.0) m.instances))
+  all_named : (m : Module) → names_of (module_view texts m) ≡ map (text_at texts) (declared_numbers m ++ map (λ x. x.name.0) m.instances)
+  all_named m = (λ i. declared_named m i ++ instances_named m.instances i) ∙ sym (map-append (text_at texts) (declared_numbers m) (map (λ x. x.name.0) m.instances))
 
   free_of : {A : Type 0} (f : A → ℕ) (xs : List A) → list_all (λ n. not (by_text.is_reserved n)) (map (text_at texts) (map f xs)) ≡ list_all (λ x. is_free texts (f x)) xs
   free_of f [] = refl
@@ -89,7 +92,7 @@ module _ (texts : List (List ℕ)) where
       let nets = map (text_at texts) (map (λ (n : NetDecl). n.name.0) m.nets) in
       let instances = map (text_at texts) (map (λ (x : Instance). x.name.0) m.instances) in
       let names : names_of (module_view texts m) ≡ (ports ++ nets) ++ instances =
-      all_named m ∙ map-append (text_at texts) (numbered.declared m) (map (λ x. x.name.0) m.instances)
+      all_named m ∙ map-append (text_at texts) (declared_numbers m) (map (λ x. x.name.0) m.instances)
       ∙ ap (λ front. front ++ instances) (map-append (text_at texts) (map (λ p. p.name.0) m.ports) (map (λ n. n.name.0) m.nets)) in
       ap (list_all free) names ∙ list_all-append free (ports ++ nets) instances ∙ ap (λ b. b && list_all free instances) (list_all-append free ports nets)
       ∙ (λ i. (free_of (λ (p : Port). p.name.0) m.ports i && free_of (λ (n : NetDecl). n.name.0) m.nets i) && free_of (λ (x : Instance). x.name.0) m.instances i)

@@ -1,13 +1,11 @@
 -- When a module fits the cells, by the numbers of names in place of their texts.
 use Rattle.std.specs.Prelude.{ℕ, Bool, true, false, not, ◌&&◌, ◌==◌, List, [], ◌∷◌, ◌++◌, map, filter, Option, Some, None, is_none, flat_map, if◌then◌else◌}
 use Rattle.std.specs.List.{list_all, list_any}
-use Rattle.lp_text.specs.Texts.{text_at}
 use Rattle.lp_model.specs.declared.bits.Bit.{Bit}
-use Rattle.lp_model.specs.declared.bits.Bit.TheVariants.{Net, Select, Const}
+use Rattle.lp_model.specs.declared.bits.Bit.TheVariants.{Net}
 use Rattle.lp_model.specs.declared.netlist.Direction.{Direction}
 use Rattle.lp_model.specs.declared.netlist.Direction.TheVariants.{Input, Output}
 use Rattle.lp_model.specs.declared.netlist.Port.{Port}
-use Rattle.lp_model.specs.declared.netlist.NetDecl.{NetDecl}
 use Rattle.lp_model.specs.declared.netlist.Connection.{Connection}
 use Rattle.lp_model.specs.declared.netlist.Connections.{Connections}
 use Rattle.lp_model.specs.declared.netlist.Connections.TheVariants.{Named, Ordered}
@@ -16,7 +14,6 @@ use Rattle.lp_model.specs.declared.netlist.Module.{Module}
 use Rattle.lp_model.specs.declared.library.PgPin.{PgPin}
 use Rattle.lp_model.specs.declared.library.Pin.{Pin}
 use Rattle.lp_model.specs.declared.library.Cell.{Cell}
-use Rattle.lp_vwrite.specs.WellFormed.{is_name}
 use Rattle.lp_single.specs.Fits.{is_extra}
 use Rattle.lp_index.specs.Places.{has_number}
 use Rattle.lp_index.specs.Cells.{cell_numbered}
@@ -25,32 +22,15 @@ abbrev pub are_distinct : List ℕ → Bool
 are_distinct [] = true
 are_distinct (n ∷ ns) = not (has_number n ns) && are_distinct ns
 
--- the text of the number is a name
-abbrev pub has_name : List (List ℕ) → ℕ → Bool
-has_name texts n = is_name (text_at texts n)
-
 -- ---- cells
 
-abbrev pub has_pg : ℕ → List PgPin → Bool
-has_pg n gs = list_any (λ (g : PgPin). g.name.0 == n) gs
-
-abbrev pub are_pgs_distinct : List PgPin → Bool
-are_pgs_distinct [] = true
-are_pgs_distinct (g ∷ gs) = not (has_pg g.name.0 gs) && are_pgs_distinct gs
-
-abbrev pub has_names_apart : Cell → Bool
-has_names_apart c = list_all (λ (q : Pin). not (has_pg q.name.0 c.pgs)) c.pins && are_pgs_distinct c.pgs
-
-abbrev pub has_pg_names : List (List ℕ) → Cell → Bool
-has_pg_names texts c = has_names_apart c && list_all (λ (g : PgPin). has_name texts g.name.0) c.pgs
-
-abbrev pub is_taken : List (List ℕ) → Cell → Bool
-is_taken texts c =
+abbrev pub is_taken : Cell → Bool
+is_taken c =
     is_none c.unusable
     && (is_none c.roles.shifter
     && (is_none c.roles.retention
     && (not c.roles.switch
-    && (list_all (λ (g : PgPin). not (is_extra g.kind)) c.pgs && has_pg_names texts c))))
+    && list_all (λ (g : PgPin). not (is_extra g.kind)) c.pgs)))
 
 -- ---- connections
 
@@ -71,12 +51,12 @@ connects_once (c ∷ cs) = not (connects c.port.0 cs) && connects_once cs
 abbrev pub connects_each_once : List Connection → List Pin → Bool
 connects_each_once cs pins = list_all (λ (c : Connection). has_pin c.port.0 pins) cs && (connects_once cs && list_all (λ (q : Pin). connects q.name.0 cs) pins)
 
-abbrev pub is_joined : List (List ℕ) → Instance → Option Cell → Bool
-is_joined texts x None = false
-is_joined texts x (Some c) = is_taken texts c && connects_each_once (named x.connections) c.pins
+abbrev pub is_joined : Instance → Option Cell → Bool
+is_joined x None = false
+is_joined x (Some c) = is_taken c && connects_each_once (named x.connections) c.pins
 
-abbrev pub are_joined : List (List ℕ) → List Cell → List Instance → Bool
-are_joined texts cells xs = list_all (λ (x : Instance). is_joined texts x (cell_numbered cells x.target.0)) xs
+abbrev pub are_joined : List Cell → List Instance → Bool
+are_joined cells xs = list_all (λ (x : Instance). is_joined x (cell_numbered cells x.target.0)) xs
 
 -- ---- sources of nets
 
@@ -108,35 +88,10 @@ driven_by cs (Some c) = flat_map (driven_at c.pins) cs
 abbrev pub driven : List Cell → List Instance → List ℕ
 driven cells xs = flat_map (λ (x : Instance). driven_by (named x.connections) (cell_numbered cells x.target.0)) xs
 
--- ---- modules of scalars
+-- ---- the whole test
 
-abbrev pub declared : Module → List ℕ
-declared m = map (λ (p : Port). p.name.0) m.ports ++ map (λ (n : NetDecl). n.name.0) m.nets
-
-abbrev pub is_bit : List ℕ → Bit → Bool
-is_bit nets (Net n) = has_number n.0 nets
-is_bit nets (Select n i) = false
-is_bit nets (Const value) = true
-
-abbrev pub is_connection : List (List ℕ) → List ℕ → Connection → Bool
-is_connection texts nets c = has_name texts c.port.0 && list_all (is_bit nets) c.bits
-
-abbrev pub are_connections : List (List ℕ) → List ℕ → Connections → Bool
-are_connections texts nets (Named cs) = connects_once cs && list_all (is_connection texts nets) cs
-are_connections texts nets (Ordered values) = false
-
-abbrev pub is_instance : List (List ℕ) → List ℕ → Instance → Bool
-is_instance texts nets x = has_name texts x.name.0 && (has_name texts x.target.0 && are_connections texts nets x.connections)
-
-abbrev pub is_module : List (List ℕ) → Module → Bool
-is_module texts m =
-    has_name texts m.name.0
-    && (list_all (has_name texts) (declared m)
-    && (are_distinct (declared m ++ map (λ (x : Instance). x.name.0) m.instances)
-    && list_all (is_instance texts (declared m)) m.instances))
-
-abbrev pub is_fit : List (List ℕ) → List Cell → Module → Bool
-is_fit texts cells m =
+abbrev pub is_fit : List Cell → Module → Bool
+is_fit cells m =
     is_none (cell_numbered cells m.name.0)
-    && (are_joined texts cells m.instances
-    && (are_distinct (inputs m.ports ++ driven cells m.instances) && is_module texts m))
+    && (are_joined cells m.instances
+    && are_distinct (inputs m.ports ++ driven cells m.instances))

@@ -1,13 +1,11 @@
-ghost use Rattle.std.specs.Prelude.{◌≡◌, ◌+◌, ◌<◌, true, length, map, flat_map, IfOk};
+ghost use Rattle.std.specs.Prelude.{◌≡◌, true, length, map, flat_map, IfOk};
 ghost use Rattle.lp_model.specs.Agreement.{numbers_below};
 ghost use Rattle.lp_model.specs.NetlistView.{module_view, module_numbers};
 ghost use Rattle.lp_model.specs.LibraryView.{cell_view, cell_numbers};
-ghost use Rattle.lp_single.specs.Single.{is_single_module};
 ghost use Rattle.lp_single.specs.Fits.{is_fit};
 ghost use Rattle.lp_fits.specs.Numbered as numbered;
 
 use crate::joined::are_joined;
-use crate::module::is_module;
 use crate::nets::have_one_source;
 use lp_index::CellIndex;
 use lp_model::Module;
@@ -21,22 +19,18 @@ pub(crate) fn is_fit_numbered(
     names: &Names,
     source: &Module,
 ) -> Result<bool, NoMemory>
-    requires { length source.now.ports + length source.now.nets < 4294967295 }
-    ensures { IfOk result (λ b. b ≡ numbered.is_fit names.now index.now source.now) }
+    ensures { IfOk result (λ b. b ≡ numbered.is_fit index.now source.now) }
 {
     if index.numbered(source.name).is_some() {
         return Ok(false);
     }
-    if !are_joined(index, names, source.instances.as_slice()) {
+    if !are_joined(index, source.instances.as_slice()) {
         return Ok(false);
     }
-    if !have_one_source(alloc, index, names, source)? {
-        return Ok(false);
-    }
-    is_module(alloc, names, source)
+    have_one_source(alloc, index, names, source)
 }
 
-/// Whether a module of scalars has no cell's name, can be written, and every instance joins the pins of a cell that can
+/// Whether a module has no cell's name, and every instance joins the pins of a cell that can
 /// stand in a source, so that no net has two sources. Of cells with one name the first counts. Takes time in proportion
 /// to the names of the table, the module, and the pins of the cells of its instances.
 ///
@@ -51,8 +45,6 @@ pub fn is_fit(
 ) -> Result<bool, NoMemory>
     requires cells { numbers_below (length names.now) (flat_map cell_numbers index.now) ≡ true }
     requires source { numbers_below (length names.now) (module_numbers source.now) ≡ true }
-    requires single { is_single_module (module_view names.now source.now) ≡ true }
-    requires few { length source.now.ports + length source.now.nets < 4294967295 }
     ensures { IfOk result (λ b. b ≡ is_fit (map (cell_view names.now) index.now) (module_view names.now source.now)) }
 {
     let _count = names.count();

@@ -6,7 +6,7 @@ ghost use Rattle.lp_fits.specs.Numbered.{named, has_pin, connects, connects_once
 use crate::taken::is_taken;
 use lp_index::CellIndex;
 use lp_model::{Connection, Connections, Instance, Pin};
-use lp_text::{NameId, Names};
+use lp_text::NameId;
 
 /// The connections by name.
 pub(crate) fn named(connections: &Connections) -> &[Connection]
@@ -49,7 +49,7 @@ fn connects_all(connections: &[Connection], pins: &[Pin]) -> bool
 /// Whether no pin is connected twice.
 ///
 /// Stops at the first pin that stands behind too, so it is quick where the pins are those of one cell.
-pub(crate) fn connects_once(connections: &[Connection]) -> bool
+fn connects_once(connections: &[Connection]) -> bool
     ensures { result ≡ connects_once connections.now }
 {
     for (place, connection) in connections.iter().enumerate() {
@@ -70,23 +70,20 @@ fn connects_each_once(connections: &[Connection], pins: &[Pin]) -> bool
 }
 
 /// Whether an instance has a cell that is taken, and connects its pins.
-fn is_joined(index: &CellIndex<'_>, names: &Names, instance: &Instance) -> bool
-    ensures { result ≡ is_joined names.now instance.now (cell_numbered index.now instance.now.target.0) }
+fn is_joined(index: &CellIndex<'_>, instance: &Instance) -> bool
+    ensures { result ≡ is_joined instance.now (cell_numbered index.now instance.now.target.0) }
 {
     match index.numbered(instance.target) {
         Some(cell) => {
-            is_taken(names, cell)
-                && connects_each_once(named(&instance.connections), cell.pins.as_slice())
+            is_taken(cell) && connects_each_once(named(&instance.connections), cell.pins.as_slice())
         }
         None => false,
     }
 }
 
 /// Whether every instance fits its cell.
-pub(crate) fn are_joined(index: &CellIndex<'_>, names: &Names, instances: &[Instance]) -> bool
-    ensures { result ≡ are_joined names.now index.now instances.now }
+pub(crate) fn are_joined(index: &CellIndex<'_>, instances: &[Instance]) -> bool
+    ensures { result ≡ are_joined index.now instances.now }
 {
-    instances
-        .iter()
-        .all(|instance| is_joined(index, names, instance))
+    instances.iter().all(|instance| is_joined(index, instance))
 }

@@ -4,8 +4,6 @@
 mod distinct;
 mod fit;
 mod joined;
-mod module;
-mod names;
 mod nets;
 mod single;
 mod taken;

@@ -4,9 +4,9 @@ ghost use Rattle.lp_model.specs.NetlistView.{netlist_view};
 ghost use Rattle.lp_single.specs.Single.{is_single};
 ghost use Rattle.lp_fits.specs.Scalars.{is_one_net, are_one_nets, is_free, has_no_assign, has_free_names, has_scalars, is_single_module};
 
-use crate::names::is_free;
+use lp_attributes::text_of;
 use lp_model::{Assign, Bit, Connection, Connections, Instance, Module, NetDecl, Netlist, Port};
-use lp_text::Names;
+use lp_text::{NameId, Names};
 
 fn have_scalar_ports(ports: &[Port]) -> bool
     ensures { result ≡ list_all (λ p. is_none p.range) ports.now }
@@ -52,6 +52,13 @@ fn are_single(instances: &[Instance]) -> bool
     instances
         .iter()
         .all(|instance| are_one_nets(&instance.connections))
+}
+
+/// Whether a name is not one of those that are kept for what is added.
+fn is_free(names: &Names, name: NameId) -> bool
+    ensures { result ≡ is_free names.now name.0 }
+{
+    !text_of(names, name).as_bytes().starts_with(b"lp_")
 }
 
 fn have_free_ports(names: &Names, ports: &[Port]) -> bool

@@ -4,4 +4,4 @@
 
 mod laws;
 
-pub use laws::{no_fault, one_fault};
+pub use laws::{inputs_are_read, no_fault, one_fault};

@@ -19,26 +19,16 @@ use Rattle.lp_verilog_tokens.specs.Lexical.{is_visible}
 use Rattle.lp_vwrite.specs.Layout.{declared}
 use Rattle.lp_vwrite.specs.WellFormed.{is_name, declaration, is_scalar, has_index, is_bit, is_connection, are_connections, is_instance, is_assign, is_net, is_module, names_of}
 use Rattle.lp_single.specs.Single.{is_single_module}
-use Rattle.lp_single.specs.Fits.{cell_named, has_pg_names, connected_names, pin_names, names_pins, is_joined, is_fit}
+use Rattle.lp_single.specs.Fits.{cell_named, has_pg_names, are_read, connected_names, pin_names, names_pins, is_joined, is_fit}
 use Rattle.lp_single.specs.Flats.{flat_of}
-use Rattle.lp_single.proofs.Names.{is_free, port-reserved, ports-apart, free-port, lookup-passes}
-use Rattle.lp_single.proofs.Fitting.{no_assign, names_free, declared_free, scalar_is, index_is, pin_apart, fit_parts, written_parts, joined_parts}
+use Rattle.lp_single.proofs.Names.{is_free, port-reserved, ports-apart, free-port, lookup-passes, has-pg, pgs_apart}
+use Rattle.lp_single.proofs.Fitting.{no_assign, names_free, declared_free, scalar_is, index_is, pin_apart, has_target_names, fit_parts, written_parts, joined_pins}
 use Rattle.lp_joins.proofs.Middle.{all-two, all-both, distinct-two, distinct-both, absent-fails, lookup-two, lookup-behind}
 
 -- ---- power and ground pins
 
 abbrev pg_names : List PgPinView → List Name
 pg_names gs = map (λ (g : PgPinView). g.name) gs
-
-has-pg : (n : Name) (gs : List PgPinView) → has_text n (pg_names gs) ≡ is_pg_name gs n
-has-pg n [] = refl
-has-pg n (g ∷ gs) = rw (same_text_comm n g.name, has-pg n gs) refl
-
-distinct-pgs : (gs : List PgPinView) → are_distinct gs ≡ true → distinct (pg_names gs) ≡ true
-distinct-pgs [] e = refl
-distinct-pgs (g ∷ gs) e =
-    let parts = and_parts (not (is_pg_name gs g.name)) (are_distinct gs) e in
-    and_from (not (has_text g.name (pg_names gs))) _ (ap not (has-pg g.name gs) ∙ parts.0) (distinct-pgs gs parts.1)
 
 joined-names : (f : Flat) (gs : List PgPinView) → map (λ (c : ConnectionView). c.port) (map (joined f) gs) ≡ pg_names gs
 joined-names f [] = refl
@@ -156,7 +146,7 @@ module _ (cells : List CellView) (m : ModuleView) (power gnd : Name) (margin : �
           let joins = (and_parts (has_names_apart c) (list_all (λ (g : PgPinView). is_name g.name) c.pgs) names).1 in
           and_from (distinct (map (λ (k : ConnectionView). k.port) (cs ++ map (joined f) c.pgs))) _
           (ap distinct (map-append (λ (k : ConnectionView). k.port) cs (map (joined f) c.pgs) ∙ ap (λ ns. map (λ (k : ConnectionView). k.port) cs ++ ns) (joined-names f c.pgs))
-          ∙ distinct-both (map (λ (k : ConnectionView). k.port) cs) (pg_names c.pgs) parts.0 (distinct-pgs c.pgs apart_too.1)
+          ∙ distinct-both (map (λ (k : ConnectionView). k.port) cs) (pg_names c.pgs) parts.0 (pgs_apart c.pgs ∙ apart_too.1)
           (all-weaker (λ n. has_text n (pin_names c)) (λ n. not (has_text n (pg_names c.pgs))) no_pg (map (λ (k : ConnectionView). k.port) cs) known.0))
           (all-both (is_connection more_declared) cs (map (joined f) c.pgs)
           (all-weaker (is_connection (declared m)) (is_connection more_declared) more_connection cs parts.1)
@@ -164,37 +154,37 @@ module _ (cells : List CellView) (m : ModuleView) (power gnd : Name) (margin : �
 
     -- ---- instances
 
-    instance_by : (x : InstanceView) (o : Option CellView) → is_joined x o ≡ true → is_instance (declared m) x ≡ true → are_connections more_declared (with_joins (joins_of f o) x.connections) ≡ true
-    instance_by x None joined written = absurd (false≢true joined)
-    instance_by x (Some c) joined written =
-        let parts = joined_parts x c joined in
+    instance_by : (x : InstanceView) (o : Option CellView) → is_joined x o ≡ true → has_target_names o ≡ true → is_instance (declared m) x ≡ true → are_connections more_declared (with_joins (joins_of f o) x.connections) ≡ true
+    instance_by x None joined names written = absurd (false≢true joined)
+    instance_by x (Some c) joined names written =
         let named = and_parts (is_name x.name) _ written in
-        connections_written c parts.names x.connections parts.pins (and_parts (is_name x.target) _ named.1).1
+        connections_written c names x.connections (joined_pins x c joined) (and_parts (is_name x.target) _ named.1).1
 
-    instances_written : (xs : List InstanceView) → list_all (λ (x : InstanceView). is_joined x (cell_named cells x.target)) xs ≡ true → list_all (is_instance (declared m)) xs ≡ true → list_all (is_instance more_declared) (map (powered_instance f) xs) ≡ true
-    instances_written [] joined written = refl
-    instances_written (x ∷ xs) joined written =
+    instances_written : (xs : List InstanceView) → list_all (λ (x : InstanceView). is_joined x (cell_named cells x.target)) xs ≡ true → list_all (λ (x : InstanceView). has_target_names (cell_named cells x.target)) xs ≡ true → list_all (is_instance (declared m)) xs ≡ true → list_all (is_instance more_declared) (map (powered_instance f) xs) ≡ true
+    instances_written [] joined names written = refl
+    instances_written (x ∷ xs) joined names written =
         let j = and_parts (is_joined x (cell_named cells x.target)) _ joined in
+        let n = and_parts (has_target_names (cell_named cells x.target)) _ names in
         let w = and_parts (is_instance (declared m) x) _ written in
         let named = and_parts (is_name x.name) _ w.0 in
         let target = and_parts (is_name x.target) _ named.1 in
         and_from (is_instance more_declared (powered_instance f x)) _
-        (and_from (is_name x.name) _ named.0 (and_from (is_name x.target) _ target.0 (instance_by x (cell_named cells x.target) j.0 w.0)))
-        (instances_written xs j.1 w.1)
+        (and_from (is_name x.name) _ named.0 (and_from (is_name x.target) _ target.0 (instance_by x (cell_named cells x.target) j.0 n.0 w.0)))
+        (instances_written xs j.1 n.1 w.1)
 
     -- ---- the module
 
-    module_written : is_fit cells m ≡ true → list_all is_visible power ≡ true → list_all is_visible gnd ≡ true → is_module (powered f) ≡ true
-    module_written fit power_seen gnd_seen =
-        let parts = fit_parts cells m fit in
+    module_written : are_read cells m ≡ true → is_fit cells m ≡ true → list_all is_visible power ≡ true → list_all is_visible gnd ≡ true → is_module (powered f) ≡ true
+    module_written read fit power_seen gnd_seen =
+        let parts = fit_parts cells m single read fit in
         let written = written_parts m parts.written in
         and_from (is_name m.name) _ written.named
         (and_from (list_all is_net (declared (powered f))) _
         (ap (list_all is_net) declared_is ∙ all-two is_net ports_declared nets_declared (power_port f, None) (ground_port f, None) written.nets (and_from (is_name (power_port f)) _ power_seen refl) (and_from (is_name (ground_port f)) _ gnd_seen refl))
         (and_from (distinct (names_of (powered f))) _ (names_apart written.apart)
         (and_from (list_all (is_instance (declared (powered f))) (map (powered_instance f) m.instances)) _
-        (ap (λ d. list_all (is_instance d) (map (powered_instance f) m.instances)) declared_is ∙ instances_written m.instances parts.joined written.instances)
+        (ap (λ d. list_all (is_instance d) (map (powered_instance f) m.instances)) declared_is ∙ instances_written m.instances parts.joined parts.named written.instances)
         (ap (list_all (is_assign (declared (powered f)))) (no_assign m single)))))
 
-    pub netlist_written : is_fit cells m ≡ true → list_all is_visible power ≡ true → list_all is_visible gnd ≡ true → (is_module (powered f) && true) ≡ true
-    netlist_written fit power_seen gnd_seen = and_from (is_module (powered f)) true (module_written fit power_seen gnd_seen) refl
+    pub netlist_written : are_read cells m ≡ true → is_fit cells m ≡ true → list_all is_visible power ≡ true → list_all is_visible gnd ≡ true → (is_module (powered f) && true) ≡ true
+    netlist_written read fit power_seen gnd_seen = and_from (is_module (powered f)) true (module_written read fit power_seen gnd_seen) refl

@@ -1,4 +1,4 @@
-ghost use Rattle.std.specs.Prelude.{◌≡◌, ℕ, ◌≤◌, true, length, map, flat_map, IfOk};
+ghost use Rattle.std.specs.Prelude.{◌≡◌, ℕ, ◌+◌, ◌≤◌, true, length, map, flat_map, IfOk};
 ghost use Rattle.lp_text.specs.Texts.{Grown};
 ghost use Rattle.lp_model.specs.Agreement.{numbers_below};
 ghost use Rattle.lp_model.specs.LibraryView.{cell_numbers, cell_view};
@@ -72,6 +72,7 @@ pub fn connect_all(
     ensures supplied { IfOk result (λ w. (margin : ℕ) → module_view names.new w ≡ powered (flat_of (map (cell_view names.old) index.now) (module_view names.old source) power.now gnd.now margin)) }
     ensures numbers { IfOk result (λ w. numbers_below (length names.new) (module_numbers w) ≡ true) }
     ensures grown { Grown names.old names.new }
+    ensures few { length names.new ≤ length names.old + 2 }
 {
     let supplies = Supplies {
         power: supply_port(alloc, names, power)?,

@@ -27,7 +27,7 @@ use Rattle.lp_design.specs.Reads.{set_keys, node_keys, some_node_keys, operator_
 use Rattle.lp_flat.specs.Designs.{design_of}
 use Rattle.lp_flat.proofs.Plain.{no_operator}
 use Rattle.lp_single.specs.Single.{is_single_module}
-use Rattle.lp_single.specs.Fits.{is_fit}
+use Rattle.lp_single.specs.Fits.{are_read, is_fit}
 use Rattle.lp_single.specs.Flats.{flat_of, IsOrdered, HasLoop}
 use Rattle.lp_loops.specs.Rows.{net_names, if_pin, port_entries, instance_entries, row_of, rows}
 use Rattle.lp_loops.proofs.Noting.{noted-first}
@@ -127,12 +127,12 @@ module _ (nets : List Name) (c : CellView) (nodes : Name → Option Node) (known
 
 -- ---- the design
 
-module _ (cells : List CellView) (m : ModuleView) (power gnd : Name) (margin : ℕ) (single : is_single_module m ≡ true) (fit : is_fit cells m ≡ true) where
+module _ (cells : List CellView) (m : ModuleView) (power gnd : Name) (margin : ℕ) (single : is_single_module m ≡ true) (given : are_read cells m ≡ true) (fit : is_fit cells m ≡ true) where
   abbrev d : Design
   d = design_of (flat_of cells m power gnd margin)
 
   abbrev s : Structure
-  s = structure cells m single fit
+  s = structure cells m single given fit
 
   abbrev nets : List Name
   nets = net_names m
@@ -152,8 +152,8 @@ module _ (cells : List CellView) (m : ModuleView) (power gnd : Name) (margin : �
 
   rows_are : rows cells m ≡ graph
   rows_are =
-      ap (map row_of) (noted-first nets (flat_map port_entries m.ports) (flat_map (instance_entries cells nets) m.instances) (nets_apart cells m single fit)
-      ∙ ap (λ f. map f nets) (λ i n. net_first cells m single fit n i))
+      ap (map row_of) (noted-first nets (flat_map port_entries m.ports) (flat_map (instance_entries cells nets) m.instances) (nets_apart cells m single given fit)
+      ∙ ap (λ f. map f nets) (λ i n. net_first cells m single given fit n i))
       ∙ map_map (λ n. option_map (source_row s nets) (source_of s (Inner n None []))) nets
 
   row-at : (k : ℕ) (n : Name) → slice_get nets k ≡ Some n → order.row_of graph k ≡ net_row n
@@ -222,10 +222,10 @@ module _ (cells : List CellView) (m : ModuleView) (power gnd : Name) (margin : �
   ground_in ks = has-behind (Of 1) (inners ks) tail_keys (has-behind (Of 1) (inputs m.ports) origins ground_second)
 
   -- an input's outer side is there
-  input_there : (n : Name) → source_of s (Outer n None) ≡ Some Environment → (ports : List PortView) → list_any (named_input cells m single fit n) ports ≡ true → has keys (At (Outer n None)) (inputs ports) ≡ true
+  input_there : (n : Name) → source_of s (Outer n None) ≡ Some Environment → (ports : List PortView) → list_any (named_input cells m single given fit n) ports ≡ true → has keys (At (Outer n None)) (inputs ports) ≡ true
   input_there n env [] h = absurd (false≢true h)
   input_there n env (p ∷ ports) h =
-      elim (bytes_eq p.name n) as (λ b. bytes_eq p.name n ≡ b → ((b && is_input p) || list_any (named_input cells m single fit n) ports) ≡ true → has keys (At (Outer n None)) (inputs (p ∷ ports)) ≡ true) [
+      elim (bytes_eq p.name n) as (λ b. bytes_eq p.name n ≡ b → ((b && is_input p) || list_any (named_input cells m single given fit n) ports) ≡ true → has keys (At (Outer n None)) (inputs (p ∷ ports)) ≡ true) [
         | true ↦ λ e g.
             let same = (bytes_eq-Decides p.name n).0 e in
             let one : driven p.name (source_of s (Outer p.name None)) ≡ (At (Outer n None) ∷ []) = ap (λ k. driven k (source_of s (Outer k None))) same ∙ ap (driven n) env in
@@ -233,8 +233,8 @@ module _ (cells : List CellView) (m : ModuleView) (power gnd : Name) (margin : �
         | false ↦ λ e g. has-behind (At (Outer n None)) (driven p.name (source_of s (Outer p.name None))) (inputs ports) (input_there n env ports g)
       ] refl h
 
-  input_in : (n : Name) (ks : List ℕ) → list_any (named_input cells m single fit n) m.ports ≡ true → has keys (At (Outer n None)) (behind ks) ≡ true
-  input_in n ks h = has-behind (At (Outer n None)) (inners ks) tail_keys (has-before (At (Outer n None)) (inputs m.ports) origins (input_there n (environment_is cells m single fit n h) m.ports h))
+  input_in : (n : Name) (ks : List ℕ) → list_any (named_input cells m single given fit n) m.ports ≡ true → has keys (At (Outer n None)) (behind ks) ≡ true
+  input_in n ks h = has-behind (At (Outer n None)) (inners ks) tail_keys (has-before (At (Outer n None)) (inputs m.ports) origins (input_there n (environment_is cells m single given fit n h) m.ports h))
 
   outer_there : (n : Name) (ports : List PortView) → has_text n (map (λ (p : PortView). p.name) ports) ≡ true → has keys (At (Outer n None)) (outers ports) ≡ true
   outer_there n [] h = absurd (false≢true h)
@@ -251,20 +251,20 @@ module _ (cells : List CellView) (m : ModuleView) (power gnd : Name) (margin : �
   output_in x q others (Some c) each =
       elim (function_of c q) as (λ e. ((b : ℕ) (y : Name) → Contains (pins_row nets c (λ v. node_at_pin s [] x v) e) b → slice_get nets b ≡ Some y → has keys (At (Inner y None [])) others ≡ true) → AllIn keys (function_keys c (λ v. some_node_keys (node_at_pin s [] x v)) e) others) [
         | None ↦ λ h. tt
-        | Some e ↦ λ h. pins_in nets c (λ v. node_at_pin s [] x v) (node_known cells m single fit x) others e.variables h
+        | Some e ↦ λ h. pins_in nets c (λ v. node_at_pin s [] x v) (node_known cells m single given fit x) others e.variables h
       ] each
 
-  from_in : (n : Name) (ks : List ℕ) (w : Way) (j : Node) → j ≡ Outer n None → list_any (named_input cells m single fit n) m.ports ≡ true → AllIn keys (source_keys d (Inner n None []) (Some (From w j))) (behind ks)
+  from_in : (n : Name) (ks : List ℕ) (w : Way) (j : Node) → j ≡ Outer n None → list_any (named_input cells m single given fit n) m.ports ≡ true → AllIn keys (source_keys d (Inner n None []) (Some (From w j))) (behind ks)
   from_in n ks w j e h =
       subst (λ ops. AllIn keys (node_keys j ++ flat_map (operator_keys d.network d.intent) ops) (behind ks)) (sym (no_operator (flat_of cells m power gnd margin) w (rail d.structure d.network d.intent d.fuel j)))
       (subst (λ k. AllIn keys (node_keys k ++ []) (behind ks)) (sym e) (input_in n ks h, tt))
 
   source_in : (n : Name) (ks : List ℕ) (o : Option Source) → source_of s (Inner n None []) ≡ o → ((b : ℕ) → Contains (row_of (option_map (source_row s nets) o)) b → Contains ks b) → AllIn keys (source_keys d (Inner n None []) o) (behind ks)
   source_in n ks None e each = tt
-  source_in n ks (Some Environment) e each = absurd (inner_fine cells m single fit n None Environment e)
+  source_in n ks (Some Environment) e each = absurd (inner_fine cells m single given fit n None Environment e)
   source_in n ks (Some (SwitchedPin p x g)) e each = tt
-  source_in n ks (Some (From w j)) e each = let fine = inner_fine cells m single fit n None (From w j) e in from_in n ks w j fine.0 fine.2
-  source_in n ks (Some (CellPin (y ∷ p) x q)) e each = let fine = (inner_fine cells m single fit n None (CellPin (y ∷ p) x q) e).0 in absurd (let no : ⊥ = cc in no)
+  source_in n ks (Some (From w j)) e each = let fine = inner_fine cells m single given fit n None (From w j) e in from_in n ks w j fine.0 fine.2
+  source_in n ks (Some (CellPin (y ∷ p) x q)) e each = let fine = (inner_fine cells m single given fit n None (CellPin (y ∷ p) x q) e).0 in absurd (let no : ⊥ = cc in no)
   source_in n ks (Some (CellPin [] x q)) e each =
       AllIn-append (set_keys d.network (primary_of d.intent (domain_of d.intent []))) (output_keys d [] x q (cell_at d.structure [] x)) (behind ks)
       (set_in (primary_of d.intent (domain_of d.intent [])) (behind ks) (power_in ks) (ground_in ks))
@@ -306,14 +306,14 @@ module _ (cells : List CellView) (m : ModuleView) (power gnd : Name) (margin : �
       let within : place.0 < length graph = subst (λ len. place.0 < len) (sym (length-map nets net_row)) (place_of-Some n nets place.0 place.1).0 in
       inner_there ks place.0 n (complete place.0 within) (place-at nets n place.0 place.1)
 
-  port_known : (n : Name) → has_text n (port_names cells m single fit) ≡ true → has_text n nets ≡ true
-  port_known n h = list_any-append (same_text n) (port_names cells m single fit) (map (λ (z : NetView). z.name) m.nets) ∙ or_left (has_text n (port_names cells m single fit)) (has_text n (map (λ (z : NetView). z.name) m.nets)) h
+  port_known : (n : Name) → has_text n (port_names cells m single given fit) ≡ true → has_text n nets ≡ true
+  port_known n h = list_any-append (same_text n) (port_names cells m single given fit) (map (λ (z : NetView). z.name) m.nets) ∙ or_left (has_text n (port_names cells m single given fit)) (has_text n (map (λ (z : NetView). z.name) m.nets)) h
 
   module _ (ks : List ℕ) (complete : (k : ℕ) → k < length graph → Contains ks k) where
     outside_in : (n : Name) (rest : List Key) (o : Option Source) → source_of s (Outer n None) ≡ o → AllIn keys (source_keys d (Outer n None) o) (rest ++ behind ks)
     outside_in n rest None e = tt
     outside_in n rest (Some x) e =
-        let fine = outer_fine cells m single fit n None x e in
+        let fine = outer_fine cells m single given fit n None x e in
         elim fine.2 [
           | inl is ↦ subst (λ z. AllIn keys (source_keys d (Outer n None) (Some z)) (rest ++ behind ks)) (sym is)
               (set_in (start_rail d.structure d.intent (Outer n None)) (rest ++ behind ks) (has-behind (Of 0) rest (behind ks) (power_in ks)) (has-behind (Of 1) rest (behind ks) (ground_in ks)))
@@ -336,19 +336,19 @@ module _ (cells : List CellView) (m : ModuleView) (power gnd : Name) (margin : �
 
     inner_covered : (n : Name) (i : Option ℕ) (o : Option Source) → source_of s (Inner n i []) ≡ o → has keys (At (Inner n i [])) (order_of ks) ≡ false → source_keys d (Inner n i []) o ≡ []
     inner_covered n i None e h = refl
-    inner_covered n i (Some Environment) e h = absurd (inner_fine cells m single fit n i Environment e)
+    inner_covered n i (Some Environment) e h = absurd (inner_fine cells m single given fit n i Environment e)
     inner_covered n i (Some (SwitchedPin p x g)) e h = refl
     inner_covered n i (Some (From w j)) e h =
-        let fine = inner_fine cells m single fit n i (From w j) e in
-        absurd (missing n i (port_known n (input_is_port cells m single fit n fine.2)) fine.1 h)
+        let fine = inner_fine cells m single given fit n i (From w j) e in
+        absurd (missing n i (port_known n (input_is_port cells m single given fit n fine.2)) fine.1 h)
     inner_covered n i (Some (CellPin p x q)) e h =
-        let fine = inner_fine cells m single fit n i (CellPin p x q) e in
+        let fine = inner_fine cells m single given fit n i (CellPin p x q) e in
         absurd (missing n i fine.2 fine.1 h)
 
     outer_covered : (n : Name) (i : Option ℕ) (o : Option Source) → source_of s (Outer n i) ≡ o → has keys (At (Outer n i)) (order_of ks) ≡ false → source_keys d (Outer n i) o ≡ []
     outer_covered n i None e h = refl
     outer_covered n i (Some x) e h =
-        let fine = outer_fine cells m single fit n i x e in
+        let fine = outer_fine cells m single given fit n i x e in
         let there : has keys (At (Outer n None)) (order_of ks) ≡ true = has-before (At (Outer n None)) (outers m.ports) (behind ks) (outer_there n m.ports fine.1) in
         absurd (both_ways (has keys (At (Outer n i)) (order_of ks)) h (subst (λ j. has keys (At (Outer n j)) (order_of ks) ≡ true) (sym fine.0) there))
 
@@ -359,7 +359,7 @@ module _ (cells : List CellView) (m : ModuleView) (power gnd : Name) (margin : �
     covers (At (Fixed b)) h = refl
     covers (At (Outer n i)) h = outer_covered n i (source_of s (Outer n i)) refl h
     covers (At (Inner n i [])) h = inner_covered n i (source_of s (Inner n i [])) refl h
-    covers (At (Inner n i (y ∷ p))) h = ap (source_keys d (Inner n i (y ∷ p))) (no_source_below cells m single fit n i y p)
+    covers (At (Inner n i (y ∷ p))) h = ap (source_keys d (Inner n i (y ∷ p))) (no_source_below cells m single given fit n i y p)
 
   order_from : order.HasOrder graph → IsOrdered (flat_of cells m power gnd margin)
   order_from o = record {
@@ -382,7 +382,7 @@ module _ (cells : List CellView) (m : ModuleView) (power gnd : Name) (margin : �
   output_step x q (Some c) b h =
       elim (function_of c q) as (λ e. Contains (pins_row nets c (λ v. node_at_pin s [] x v) e) b → Steps (function_keys c (λ v. some_node_keys (node_at_pin s [] x v)) e) b) [
         | None ↦ λ g. absurd (omega (arith, g.1))
-        | Some e ↦ λ g. pins_look nets c (λ v. node_at_pin s [] x v) (node_known cells m single fit x) e.variables b g
+        | Some e ↦ λ g. pins_look nets c (λ v. node_at_pin s [] x v) (node_known cells m single given fit x) e.variables b g
       ] h
 
   source_step : (n : Name) (o : Option Source) → source_of s (Inner n None []) ≡ o → (b : ℕ) → Contains (row_of (option_map (source_row s nets) o)) b → Steps (source_keys d (Inner n None []) o) b
@@ -390,7 +390,7 @@ module _ (cells : List CellView) (m : ModuleView) (power gnd : Name) (margin : �
   source_step n (Some Environment) e b h = absurd (omega (arith, h.1))
   source_step n (Some (SwitchedPin p x g)) e b h = absurd (omega (arith, h.1))
   source_step n (Some (From w j)) e b h = absurd (omega (arith, h.1))
-  source_step n (Some (CellPin (y ∷ p) x q)) e b h = let fine = (inner_fine cells m single fit n None (CellPin (y ∷ p) x q) e).0 in absurd (let no : ⊥ = cc in no)
+  source_step n (Some (CellPin (y ∷ p) x q)) e b h = let fine = (inner_fine cells m single given fit n None (CellPin (y ∷ p) x q) e).0 in absurd (let no : ⊥ = cc in no)
   source_step n (Some (CellPin [] x q)) e b h =
       let next = output_step x q (cell_at d.structure [] x) b h in
       (next.0, next.1, has-behind (At (Inner next.0 None [])) (set_keys d.network (primary_of d.intent (domain_of d.intent []))) (output_keys d [] x q (cell_at d.structure [] x)) next.2)

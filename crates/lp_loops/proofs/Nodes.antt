@@ -13,7 +13,7 @@ use Rattle.lp_design.specs.Graph.{from_port, is_output_pin, touches, when, some_
 use Rattle.lp_design.specs.Settled.{node_at_pin}
 use Rattle.lp_flat.proofs.Sources.{AllByRecursion-append}
 use Rattle.lp_single.specs.Single.{is_single_module}
-use Rattle.lp_single.specs.Fits.{is_fit}
+use Rattle.lp_single.specs.Fits.{are_read, is_fit}
 use Rattle.lp_loops.specs.Rows.{net_names}
 use Rattle.lp_loops.proofs.Shape.{PinBits, IsGood, AllGood, instances_good, found_good, ports_scalar, ports_apart, structure, top, no_module}
 use Rattle.lp_loops.proofs.Sources.{pin_source, one_source, inner_is, first_of, source_is, none_is}
@@ -50,9 +50,9 @@ none-filter t (x ∷ xs) e =
 abbrev pub PinNode : List Name → Option Node → Type 0
 PinNode nets o = (o ≡ None) ⊎ ((y : Name) × (o ≡ Some (Inner y None [])) × (has_text y nets ≡ true))
 
-module _ (cells : List CellView) (m : ModuleView) (single : is_single_module m ≡ true) (fit : is_fit cells m ≡ true) where
+module _ (cells : List CellView) (m : ModuleView) (single : is_single_module m ≡ true) (read : are_read cells m ≡ true) (fit : is_fit cells m ≡ true) where
   abbrev s : Structure
-  s = structure cells m single fit
+  s = structure cells m single read fit
 
   abbrev nets : List Name
   nets = net_names m
@@ -71,12 +71,12 @@ module _ (cells : List CellView) (m : ModuleView) (single : is_single_module m �
 
   found_node : (v : Name) (o : Option InstanceView) → (x : Name) → instance_named m x ≡ o → PinNode nets (option_and_then (λ (i : InstanceView). pin_node [] v i.connections) o)
   found_node v None x e = inl refl
-  found_node v (Some i) x e = pin_known v i.connections ((found_good cells m single fit x m.instances i (instances_good cells m single fit) e).bits v)
+  found_node v (Some i) x e = pin_known v i.connections ((found_good cells m single read fit x m.instances i (instances_good cells m single read fit) e).bits v)
 
   pub node_known : (x v : Name) → PinNode nets (node_at_pin s [] x v)
   node_known x v =
       subst (PinNode nets)
-      (sym (ap (λ o. option_and_then (λ (k : ModuleView). option_and_then (λ (i : InstanceView). pin_node [] v i.connections) (instance_named k x)) o) (top cells m single fit)))
+      (sym (ap (λ o. option_and_then (λ (k : ModuleView). option_and_then (λ (i : InstanceView). pin_node [] v i.connections) (instance_named k x)) o) (top cells m single read fit)))
       (found_node v (instance_named m x) x refl)
 
   -- ---- inner nodes
@@ -96,11 +96,11 @@ module _ (cells : List CellView) (m : ModuleView) (single : is_single_module m �
         (no_index i same.1, subst (λ k. has_text k nets ≡ true) ((bytes_eq-Decides known.0 n).0 same.0) known.2)
 
     module _ (x : InstanceView) (g : IsGood cells m x) where
-      pins_fine : (qs : List PinView) → AllByRecursion (Fine n i) (some_of (pin_source cells m single fit x g n i) qs)
+      pins_fine : (qs : List PinView) → AllByRecursion (Fine n i) (some_of (pin_source cells m single read fit x g n i) qs)
       pins_fine [] = tt
       pins_fine (q ∷ qs) =
           let rest = pins_fine qs in
-          elim (is_output_pin q && touches [] n i (connected [] q.name x.connections)) as (λ b. (is_output_pin q && touches [] n i (connected [] q.name x.connections)) ≡ b → AllByRecursion (Fine n i) (and_more (when b (CellPin [] x.name q.name)) (some_of (pin_source cells m single fit x g n i) qs))) [
+          elim (is_output_pin q && touches [] n i (connected [] q.name x.connections)) as (λ b. (is_output_pin q && touches [] n i (connected [] q.name x.connections)) ≡ b → AllByRecursion (Fine n i) (and_more (when b (CellPin [] x.name q.name)) (some_of (pin_source cells m single read fit x g n i) qs))) [
             | true ↦ λ e.
                 let here = touch (connected [] q.name x.connections) (g.bits q.name) (and_parts (is_output_pin q) (touches [] n i (connected [] q.name x.connections)) e).1 in
                 ((refl, here.0, here.1), rest)
@@ -108,9 +108,9 @@ module _ (cells : List CellView) (m : ModuleView) (single : is_single_module m �
           ] refl
 
       one_fine : AllByRecursion (Fine n i) (from_one s [] n i x)
-      one_fine = subst (AllByRecursion (Fine n i)) (sym (one_source cells m single fit x g n i)) (pins_fine g.cell.pins)
+      one_fine = subst (AllByRecursion (Fine n i)) (sym (one_source cells m single read fit x g n i)) (pins_fine g.cell.pins)
 
-    all_fine : (xs : List InstanceView) → AllGood cells m single fit xs → AllByRecursion (Fine n i) (flat_map (from_one s [] n i) xs)
+    all_fine : (xs : List InstanceView) → AllGood cells m single read fit xs → AllByRecursion (Fine n i) (flat_map (from_one s [] n i) xs)
     all_fine [] good = tt
     all_fine (x ∷ xs) good = AllByRecursion-append (Fine n i) (from_one s [] n i x) (flat_map (from_one s [] n i) xs) (one_fine x good.0) (all_fine xs good.1)
 
@@ -134,15 +134,15 @@ module _ (cells : List CellView) (m : ModuleView) (single : is_single_module m �
     from_ports : AllByRecursion (Fine n i) (ports_in s [] n i m)
     from_ports =
         elim (cases_Bool (list_any (named_input n) m.ports)) [
-          | inl h ↦ ports_fine h m.ports (ports_scalar cells m single fit)
+          | inl h ↦ ports_fine h m.ports (ports_scalar cells m single read fit)
           | inr h ↦ subst (λ ps. AllByRecursion (Fine n i) (flat_map (from_port s [] n i) ps)) (sym (none-filter (named_input n) m.ports h)) tt
         ]
 
     pub inner_fine : (x : Source) → source_of s (Inner n i []) ≡ Some x → Fine n i x
     inner_fine x e =
         first_each (Fine n i) (ports_in s [] n i m ++ flat_map (from_one s [] n i) m.instances) x
-        (AllByRecursion-append (Fine n i) (ports_in s [] n i m) (flat_map (from_one s [] n i) m.instances) from_ports (all_fine m.instances (instances_good cells m single fit)))
-        (sym (source_is s (Inner n i []) (ports_in s [] n i m ++ flat_map (from_one s [] n i) m.instances) (inner_is cells m single fit n i)) ∙ e)
+        (AllByRecursion-append (Fine n i) (ports_in s [] n i m) (flat_map (from_one s [] n i) m.instances) from_ports (all_fine m.instances (instances_good cells m single read fit)))
+        (sym (source_is s (Inner n i []) (ports_in s [] n i m ++ flat_map (from_one s [] n i) m.instances) (inner_is cells m single read fit n i)) ∙ e)
 
   -- an input port is a net
   input_known : (n : Name) (ports : List PortView) → list_any (named_input n) ports ≡ true → has_text n (map (λ (p : PortView). p.name) ports) ≡ true
@@ -158,7 +158,7 @@ module _ (cells : List CellView) (m : ModuleView) (single : is_single_module m �
 
   -- below the top nothing has a source
   pub no_source_below : (n : Name) (i : Option ℕ) (y : Name) (p : Path) → source_of s (Inner n i (y ∷ p)) ≡ None
-  no_source_below n i y p = source_is s (Inner n i (y ∷ p)) [] (rw (no_module cells m single fit y p) refl)
+  no_source_below n i y p = source_is s (Inner n i (y ∷ p)) [] (rw (no_module cells m single read fit y p) refl)
 
   -- ---- outer nodes
 
@@ -190,10 +190,10 @@ module _ (cells : List CellView) (m : ModuleView) (single : is_single_module m �
         ] refl e
 
     outer_is : source_of s (Outer n i) ≡ first_of (map (outside n i) (filter here m.ports))
-    outer_is = source_is s (Outer n i) (map (outside n i) (filter here m.ports)) (rw (top cells m single fit) refl)
+    outer_is = source_is s (Outer n i) (map (outside n i) (filter here m.ports)) (rw (top cells m single read fit) refl)
 
     pub outer_fine : (x : Source) → source_of s (Outer n i) ≡ Some x → IsOutside port_names x
-    outer_fine x e = outside_first m.ports (ports_scalar cells m single fit) x (sym outer_is ∙ e)
+    outer_fine x e = outside_first m.ports (ports_scalar cells m single read fit) x (sym outer_is ∙ e)
 
   -- the environment drives the outer side of an input
   environment_first : (n : Name) (ports : List PortView) → list_all (λ (p : PortView). is_none p.range) ports ≡ true → distinct (map (λ (p : PortView). p.name) ports) ≡ true → list_any (named_input n) ports ≡ true → first_of (map (outside n None) (filter (here n None) ports)) ≡ Some Environment
@@ -214,4 +214,4 @@ module _ (cells : List CellView) (m : ModuleView) (single : is_single_module m �
       ] refl h
 
   pub environment_is : (n : Name) → list_any (named_input n) m.ports ≡ true → source_of s (Outer n None) ≡ Some Environment
-  environment_is n h = outer_is n None ∙ environment_first n m.ports (ports_scalar cells m single fit) (ports_apart cells m single fit) h
+  environment_is n h = outer_is n None ∙ environment_first n m.ports (ports_scalar cells m single read fit) (ports_apart cells m single read fit) h

@@ -12,11 +12,13 @@ use Rattle.lp_model.specs.LibraryView.{CellView}
 use Rattle.lp_design.specs.Keys.{Name, Path}
 use Rattle.lp_design.specs.Netlists.{Structure, first, module_named, instance_named, module_at, bits_named, connected}
 use Rattle.lp_vwrite.specs.Layout.{declared}
-use Rattle.lp_vwrite.specs.WellFormed.{is_name, is_net, is_scalar, is_bit, is_connection, are_connections, is_instance, is_assign, names_of, is_module}
-use Rattle.lp_single.specs.Single.{is_reserved, is_scalar_bit, is_single_instance, has_no_assign, is_single_module}
+use Rattle.lp_flat.specs.Tests.{has_names_apart}
+use Rattle.lp_vwrite.specs.WellFormed.{is_name, is_scalar, is_bit, is_connection, are_connections, is_instance}
+use Rattle.lp_single.specs.Single.{is_scalar_bit, is_single_instance, is_single_module}
 use Rattle.lp_single.specs.Fits as fits
-use Rattle.lp_single.specs.Fits.{is_taken, connected_names, pin_names, names_pins, is_joined, driven_nets, is_fit}
+use Rattle.lp_single.specs.Fits.{connected_names, pin_names, names_pins, is_joined, are_read, is_fit}
 use Rattle.lp_flat.proofs.Lists.{turned}
+use Rattle.lp_single.proofs.Fitting.{behind_nets, has_target_names, IsFit, fit_parts, IsWritten, written_parts, joined_pins}
 use Rattle.lp_loops.specs.Rows.{net_names}
 
 -- ---- the names of nets
@@ -87,74 +89,31 @@ pub record IsGood (cells : List CellView) (m : ModuleView) (x : InstanceView) : 
   pub cell : CellView
   pub is : fits.cell_named cells x.target ≡ Some cell
   pub other : bytes_eq m.name x.target ≡ false
-  pub taken : is_taken cell ≡ true
+  pub apart : has_names_apart cell ≡ true
   pub pins : names_pins (connected_names x.connections) (pin_names cell) ≡ true
   pub bits : (v : Name) → PinBits (net_names m) (connected [] v x.connections)
 
-module _ (cells : List CellView) (m : ModuleView) (single : is_single_module m ≡ true) (fit : is_fit cells m ≡ true) where
-  abbrev ports_tested : Bool
-  ports_tested = list_all (λ (p : PortView). is_none p.range) m.ports
-
-  abbrev reserved_tested : Bool
-  reserved_tested = list_all (λ n. not (is_reserved n)) (m.name ∷ names_of m)
-
-  abbrev nets_tested : Bool
-  nets_tested = list_all (λ (n : NetView). is_none n.range) m.nets
-
+module _ (cells : List CellView) (m : ModuleView) (single : is_single_module m ≡ true) (read : are_read cells m ≡ true) (fit : is_fit cells m ≡ true) where
   pub ports_scalar : list_all (λ (p : PortView). is_none p.range) m.ports ≡ true
-  ports_scalar = (and_parts ports_tested (nets_tested && (list_all is_single_instance m.instances && (has_no_assign m.assigns && reserved_tested))) single).0
-
-  behind_nets : (list_all is_single_instance m.instances && (has_no_assign m.assigns && reserved_tested)) ≡ true
-  behind_nets = (and_parts nets_tested (list_all is_single_instance m.instances && (has_no_assign m.assigns && reserved_tested)) (and_parts ports_tested (nets_tested && (list_all is_single_instance m.instances && (has_no_assign m.assigns && reserved_tested))) single).1).1
+  ports_scalar = (and_parts (list_all (λ (p : PortView). is_none p.range) m.ports) _ single).0
 
   instances_single : list_all is_single_instance m.instances ≡ true
-  instances_single = (and_parts (list_all is_single_instance m.instances) (has_no_assign m.assigns && reserved_tested) behind_nets).0
+  instances_single = (and_parts (list_all is_single_instance m.instances) _ (behind_nets m single)).0
 
-  pub no_assign : m.assigns ≡ []
-  no_assign = by m.assigns (and_parts (has_no_assign m.assigns) reserved_tested (and_parts (list_all is_single_instance m.instances) (has_no_assign m.assigns && reserved_tested) behind_nets).1).0
-    where
-      by : (xs : List AssignView) → has_no_assign xs ≡ true → xs ≡ []
-      by [] e = refl
-      by (x ∷ xs) e = absurd (false≢true e)
+  parts : IsFit cells m
+  parts = fit_parts cells m single read fit
 
-  abbrev all_joined : Bool
-  all_joined = list_all (λ (x : InstanceView). is_joined x (fits.cell_named cells x.target)) m.instances
-
-  no_cell : is_none (fits.cell_named cells m.name) ≡ true
-  no_cell = (and_parts (is_none (fits.cell_named cells m.name)) (all_joined && (distinct (driven_nets cells m) && is_module m)) fit).0
-
-  behind_name : (all_joined && (distinct (driven_nets cells m) && is_module m)) ≡ true
-  behind_name = (and_parts (is_none (fits.cell_named cells m.name)) (all_joined && (distinct (driven_nets cells m) && is_module m)) fit).1
-
-  instances_joined : all_joined ≡ true
-  instances_joined = (and_parts all_joined (distinct (driven_nets cells m) && is_module m) behind_name).0
-
-  well : is_module m ≡ true
-  well = (and_parts (distinct (driven_nets cells m)) (is_module m) (and_parts all_joined (distinct (driven_nets cells m) && is_module m) behind_name).1).1
-
-  abbrev all_written : Bool
-  all_written = list_all (is_instance (declared m)) m.instances
-
-  abbrev assigns_written : Bool
-  assigns_written = list_all (is_assign (declared m)) m.assigns
-
-  behind_declared : (distinct (names_of m) && (all_written && assigns_written)) ≡ true
-  behind_declared = (and_parts (list_all is_net (declared m)) (distinct (names_of m) && (all_written && assigns_written)) (and_parts (is_name m.name) (list_all is_net (declared m) && (distinct (names_of m) && (all_written && assigns_written))) well).1).1
-
-  names_apart : distinct (names_of m) ≡ true
-  names_apart = (and_parts (distinct (names_of m)) (all_written && assigns_written) behind_declared).0
-
-  instances_written : all_written ≡ true
-  instances_written = (and_parts all_written assigns_written (and_parts (distinct (names_of m)) (all_written && assigns_written) behind_declared).1).0
+  written : IsWritten m
+  written = written_parts m parts.written
 
   pub nets_apart : distinct (net_names m) ≡ true
-  nets_apart = subst (λ names. distinct names ≡ true) (names_are m) (distinct-append_left (map first_of (declared m)) (map (λ (i : InstanceView). i.name) m.instances) names_apart)
+  nets_apart = subst (λ names. distinct names ≡ true) (names_are m) (distinct-append_left (map first_of (declared m)) (map (λ (i : InstanceView). i.name) m.instances) written.apart)
 
   pub ports_apart : distinct (map (λ (p : PortView). p.name) m.ports) ≡ true
   ports_apart = distinct-append_left (map (λ (p : PortView). p.name) m.ports) (map (λ (n : NetView). n.name) m.nets) nets_apart
 
   pub instances_apart : distinct (map (λ (i : InstanceView). i.name) m.instances) ≡ true
-  instances_apart = distinct-append_right (map first_of (declared m)) (map (λ (i : InstanceView). i.name) m.instances) names_apart
+  instances_apart = distinct-append_right (map first_of (declared m)) (map (λ (i : InstanceView). i.name) m.instances) written.apart
 
   -- ---- instances
 
@@ -163,38 +122,48 @@ module _ (cells : List CellView) (m : ModuleView) (single : is_single_module m �
   other_name x c e = by (bytes_eq m.name x.target) refl
     where
       no_name : m.name ≡ x.target → ⊥
-      no_name same = false≢true (sym (ap is_none (ap (fits.cell_named cells) same ∙ e)) ∙ no_cell)
+      no_name same = let gone : None ≡ Some c = sym parts.no_cell ∙ ap (fits.cell_named cells) same ∙ e in absurd cc
 
       by : (b : Bool) → bytes_eq m.name x.target ≡ b → b ≡ false
       by true is = absurd (no_name ((bytes_eq-Decides m.name x.target).0 is))
       by false is = refl
 
-  good : (x : InstanceView) → is_single_instance x ≡ true → is_joined x (fits.cell_named cells x.target) ≡ true → is_instance (declared m) x ≡ true → IsGood cells m x
-  good x one joined written = by (fits.cell_named cells x.target) refl joined
+  good : (x : InstanceView) → is_single_instance x ≡ true → is_joined x (fits.cell_named cells x.target) ≡ true → has_target_names (fits.cell_named cells x.target) ≡ true → is_instance (declared m) x ≡ true → IsGood cells m x
+  good x one joined named fine = by (fits.cell_named cells x.target) refl joined named
     where
       connections : are_connections (declared m) x.connections ≡ true
-      connections = (and_parts (is_name x.target) (are_connections (declared m) x.connections) (and_parts (is_name x.name) (is_name x.target && are_connections (declared m) x.connections) written).1).1
+      connections = (and_parts (is_name x.target) (are_connections (declared m) x.connections) (and_parts (is_name x.name) (is_name x.target && are_connections (declared m) x.connections) fine).1).1
 
-      by : (o : Option CellView) → fits.cell_named cells x.target ≡ o → is_joined x o ≡ true → IsGood cells m x
-      by None e j = absurd (false≢true j)
-      by (Some c) e j =
-          let parts = and_parts (is_taken c) (names_pins (connected_names x.connections) (pin_names c)) j in
-          record { cell = c; is = e; other = other_name x c e; taken = parts.0; pins = parts.1; bits = λ v. pin_bits m v x.connections x refl one connections }
+      by : (o : Option CellView) → fits.cell_named cells x.target ≡ o → is_joined x o ≡ true → has_target_names o ≡ true → IsGood cells m x
+      by None e j n = absurd (false≢true j)
+      by (Some c) e j n = record {
+        cell = c;
+        is = e;
+        other = other_name x c e;
+        apart = (and_parts (has_names_apart c) _ n).0;
+        pins = joined_pins x c j;
+        bits = λ v. pin_bits m v x.connections x refl one connections;
+      }
 
   abbrev pub AllGood : List InstanceView → Type 0
   AllGood [] = Unit {0}
   AllGood (x ∷ xs) = IsGood cells m x × AllGood xs
 
-  all_good : (xs : List InstanceView) → list_all is_single_instance xs ≡ true → list_all (λ (x : InstanceView). is_joined x (fits.cell_named cells x.target)) xs ≡ true → list_all (is_instance (declared m)) xs ≡ true → AllGood xs
-  all_good [] a b c = tt
-  all_good (x ∷ xs) a b c =
+  all_good : (xs : List InstanceView) → list_all is_single_instance xs ≡ true
+      → list_all (λ (x : InstanceView). is_joined x (fits.cell_named cells x.target)) xs ≡ true
+      → list_all (λ (x : InstanceView). has_target_names (fits.cell_named cells x.target)) xs ≡ true
+      → list_all (is_instance (declared m)) xs ≡ true
+      → AllGood xs
+  all_good [] a b c d = tt
+  all_good (x ∷ xs) a b c d =
       let one = and_parts (is_single_instance x) (list_all is_single_instance xs) a in
-      let joined = and_parts (is_joined x (fits.cell_named cells x.target)) (list_all (λ (y : InstanceView). is_joined y (fits.cell_named cells y.target)) xs) b in
-      let written = and_parts (is_instance (declared m) x) (list_all (is_instance (declared m)) xs) c in
-      (good x one.0 joined.0 written.0, all_good xs one.1 joined.1 written.1)
+      let joined = and_parts (is_joined x (fits.cell_named cells x.target)) _ b in
+      let named = and_parts (has_target_names (fits.cell_named cells x.target)) _ c in
+      let fine = and_parts (is_instance (declared m) x) _ d in
+      (good x one.0 joined.0 named.0 fine.0, all_good xs one.1 joined.1 named.1 fine.1)
 
   pub instances_good : AllGood m.instances
-  instances_good = all_good m.instances instances_single instances_joined instances_written
+  instances_good = all_good m.instances instances_single parts.joined parts.named written.instances
 
   pub found_good : (n : Name) (xs : List InstanceView) (x : InstanceView) → AllGood xs → first (λ (i : InstanceView). bytes_eq i.name n) xs ≡ Some x → IsGood cells m x
   found_good n [] x all e = absurd cc

@@ -12,15 +12,15 @@ use Rattle.lp_design.specs.Netlists as nets_of
 use Rattle.lp_design.specs.Netlists.{Structure, first, instance_named, module_named, module_at, cell_at, bits_named, connected, is_input, indices}
 use Rattle.lp_design.specs.Graph.{from_port, is_output_pin, touches, when, some_of, and_more, from_one, from_assign, numbered, in_module, ports_in, sources_of, source_of, pin_node}
 use Rattle.lp_design.specs.Settled.{pin_named, function_of, node_at_pin}
-use Rattle.lp_flat.specs.Tests.{is_pg_name, are_distinct, has_names_apart}
+use Rattle.lp_flat.specs.Tests.{is_pg_name, are_distinct}
 use Rattle.lp_flat.proofs.Lists.{name-self, turned, all-weaker}
 use Rattle.lp_single.specs.Single.{is_single_module}
 use Rattle.lp_single.specs.Fits as fits
-use Rattle.lp_single.specs.Fits.{is_extra, has_pg_names, is_taken, connected_names, pin_names, names_pins, is_fit}
-use Rattle.lp_vwrite.specs.WellFormed.{is_name}
+use Rattle.lp_single.specs.Fits.{connected_names, pin_names, names_pins, are_read, is_fit}
+use Rattle.lp_single.proofs.Fitting.{no_assign}
 use Rattle.lp_loops.specs.Rows.{net_names, net_in, net_at, number_of, if_pin, function_row, output_row, net_entries, pin_entries, cell_entries, instance_entries, port_entries}
 use Rattle.lp_loops.proofs.Noting.{or_else, first_for, first_for-append}
-use Rattle.lp_loops.proofs.Shape.{PinBits, IsGood, AllGood, instances_good, instances_apart, ports_scalar, no_assign, structure, top, no_module_named}
+use Rattle.lp_loops.proofs.Shape.{PinBits, IsGood, AllGood, instances_good, instances_apart, ports_scalar, structure, top, no_module_named}
 
 -- ---- what sources read, by numbers
 
@@ -95,19 +95,6 @@ all_found (x ∷ xs) h =
 
 -- ---- power and ground pins are not connected
 
-pg_names : (c : CellView) → is_taken c ≡ true → has_names_apart c ≡ true
-pg_names c e =
-    let kinds = list_all (λ (g : PgPinView). not (is_extra g.kind)) c.pgs in
-    let plain = kinds && has_pg_names c in
-    let switch = not c.roles.switch && plain in
-    let retention = is_none c.roles.retention && switch in
-    let shifter = is_none c.roles.shifter && retention in
-    let one = (and_parts (is_none c.unusable) shifter e).1 in
-    let two = (and_parts (is_none c.roles.shifter) retention one).1 in
-    let three = (and_parts (is_none c.roles.retention) switch two).1 in
-    let four = (and_parts (not c.roles.switch) plain three).1 in
-    (and_parts (has_names_apart c) (list_all (λ (g : PgPinView). is_name g.name) c.pgs) (and_parts kinds (has_pg_names c) four).1).0
-
 -- a name of a signal pin is none of a power or ground pin
 not_pg : (gs : List PgPinView) (pins : List PinView) (n : Name) → list_all (λ (q : PinView). not (is_pg_name gs q.name)) pins ≡ true → has_text n (map (λ (q : PinView). q.name) pins) ≡ true → not (is_pg_name gs n) ≡ true
 not_pg gs [] n all h = absurd (false≢true h)
@@ -157,9 +144,9 @@ module _ (x : InstanceView) (n : Name) (i : Option ℕ) where
 
 -- ---- one instance
 
-module _ (cells : List CellView) (m : ModuleView) (single : is_single_module m ≡ true) (fit : is_fit cells m ≡ true) where
+module _ (cells : List CellView) (m : ModuleView) (single : is_single_module m ≡ true) (read : are_read cells m ≡ true) (fit : is_fit cells m ≡ true) where
   abbrev s : Structure
-  s = structure cells m single fit
+  s = structure cells m single read fit
 
   abbrev nets : List Name
   nets = net_names m
@@ -172,26 +159,26 @@ module _ (cells : List CellView) (m : ModuleView) (single : is_single_module m �
     pgs_open n i = by x.connections refl g.pins
       where
         apart : list_all (λ (q : PinView). not (is_pg_name g.cell.pgs q.name)) g.cell.pins ≡ true
-        apart = (and_parts (list_all (λ (q : PinView). not (is_pg_name g.cell.pgs q.name)) g.cell.pins) (are_distinct g.cell.pgs) (pg_names g.cell g.taken)).0
+        apart = (and_parts (list_all (λ (q : PinView). not (is_pg_name g.cell.pgs q.name)) g.cell.pins) (are_distinct g.cell.pgs) g.apart).0
 
         by : (o : ConnectionsView) → x.connections ≡ o → names_pins (connected_names o) (pin_names g.cell) ≡ true → some_of (pg_source x n i) g.cell.pgs ≡ []
         by (ByName cs) e h = pgs_none x n i cs e g.cell.pgs (avoided g.cell cs apart (and_parts (list_all (λ k. has_text k (pin_names g.cell)) (connected_names (ByName cs))) (distinct (connected_names (ByName cs)) && list_all (λ k. has_text k (connected_names (ByName cs))) (pin_names g.cell)) h).0)
         by (ByPosition values) e h = by_position x n i values e g.cell.pgs
 
     pub one_source : (n : Name) (i : Option ℕ) → from_one s [] n i x ≡ some_of (pin_source n i) g.cell.pins
-    one_source n i = rw (no_module_named cells m single fit x g, g.is) (ap (λ r. some_of (pin_source n i) g.cell.pins ++ r) (pgs_open n i) ∙ append-nil (some_of (pin_source n i) g.cell.pins))
+    one_source n i = rw (no_module_named cells m single read fit x g, g.is) (ap (λ r. some_of (pin_source n i) g.cell.pins ++ r) (pgs_open n i) ∙ append-nil (some_of (pin_source n i) g.cell.pins))
 
     module _ (found : IsFound m.instances x) where
       node_is : (v : Name) → node_at_pin s [] x.name v ≡ pin_node [] v x.connections
       node_is v =
-          ap (λ o. option_and_then (λ (k : ModuleView). option_and_then (λ (i : InstanceView). pin_node [] v i.connections) (instance_named k x.name)) o) (top cells m single fit)
+          ap (λ o. option_and_then (λ (k : ModuleView). option_and_then (λ (i : InstanceView). pin_node [] v i.connections) (instance_named k x.name)) o) (top cells m single read fit)
           ∙ ap (λ o. option_and_then (λ (i : InstanceView). pin_node [] v i.connections) o) found
 
       cell_is : cell_at s [] x.name ≡ Some g.cell
       cell_is =
-          ap (λ o. option_and_then (λ (k : ModuleView). option_and_then (λ (i : InstanceView). nets_of.cell_named s i.target) (instance_named k x.name)) o) (top cells m single fit)
+          ap (λ o. option_and_then (λ (k : ModuleView). option_and_then (λ (i : InstanceView). nets_of.cell_named s i.target) (instance_named k x.name)) o) (top cells m single read fit)
           ∙ ap (λ o. option_and_then (λ (i : InstanceView). nets_of.cell_named s i.target) o) found
-          ∙ ap (λ o. cond (is_some o) None (fits.cell_named cells x.target)) (no_module_named cells m single fit x g)
+          ∙ ap (λ o. cond (is_some o) None (fits.cell_named cells x.target)) (no_module_named cells m single read fit x g)
           ∙ g.is
 
       row_at : (v : Name) (bits : List BitView) → connected [] v x.connections ≡ bits → node_row nets (pin_node [] v x.connections) ≡ number_of nets (net_at x.connections v)
@@ -233,7 +220,7 @@ module _ (cells : List CellView) (m : ModuleView) (single : is_single_module m �
   -- ---- all of the module
 
   module _ (n : Name) where
-    instances_first : (xs : List InstanceView) → AllGood cells m single fit xs → AllByRecursion (IsFound m.instances) xs → first_for n (flat_map (instance_entries cells nets) xs) ≡ first_row s nets (flat_map (from_one s [] n None) xs)
+    instances_first : (xs : List InstanceView) → AllGood cells m single read fit xs → AllByRecursion (IsFound m.instances) xs → first_for n (flat_map (instance_entries cells nets) xs) ≡ first_row s nets (flat_map (from_one s [] n None) xs)
     instances_first [] good found = refl
     instances_first (x ∷ xs) good found =
         first_for-append n (instance_entries cells nets x) (flat_map (instance_entries cells nets) xs)
@@ -263,17 +250,17 @@ module _ (cells : List CellView) (m : ModuleView) (single : is_single_module m �
     -- there are no assigns
     pub module_is : (i : Option ℕ) → in_module s [] n i m ≡ (ports_in s [] n i m ++ flat_map (from_one s [] n i) m.instances)
     module_is i =
-        ap (λ r. ports_in s [] n i m ++ (flat_map (from_one s [] n i) m.instances ++ flat_map (from_assign [] n i) (numbered 0 r))) (no_assign cells m single fit)
+        ap (λ r. ports_in s [] n i m ++ (flat_map (from_one s [] n i) m.instances ++ flat_map (from_assign [] n i) (numbered 0 r))) (no_assign m single)
         ∙ ap (λ r. ports_in s [] n i m ++ r) (append-nil (flat_map (from_one s [] n i) m.instances))
 
     pub inner_is : (i : Option ℕ) → sources_of s (Inner n i []) ≡ (ports_in s [] n i m ++ flat_map (from_one s [] n i) m.instances)
-    inner_is i = rw (top cells m single fit) (module_is i)
+    inner_is i = rw (top cells m single read fit) (module_is i)
 
     -- what is noted of a net is what its source reads
     pub net_first : first_for n (flat_map port_entries m.ports ++ flat_map (instance_entries cells nets) m.instances) ≡ option_map (source_row s nets) (source_of s (Inner n None []))
     net_first =
         first_for-append n (flat_map port_entries m.ports) (flat_map (instance_entries cells nets) m.instances)
-        ∙ (λ r. or_else (ports_first m.ports (ports_scalar cells m single fit) r) (instances_first m.instances (instances_good cells m single fit) (all_found m.instances (instances_apart cells m single fit)) r))
+        ∙ (λ r. or_else (ports_first m.ports (ports_scalar cells m single read fit) r) (instances_first m.instances (instances_good cells m single read fit) (all_found m.instances (instances_apart cells m single read fit)) r))
         ∙ sym (first_row-append s nets (ports_in s [] n None m) (flat_map (from_one s [] n None) m.instances))
         ∙ first_row-of s nets (ports_in s [] n None m ++ flat_map (from_one s [] n None) m.instances)
         ∙ ap (option_map (source_row s nets)) (sym (source_is s (Inner n None []) (ports_in s [] n None m ++ flat_map (from_one s [] n None) m.instances) (inner_is None)))

@@ -1,15 +1,17 @@
 -- Names of a source and names that are added.
-use Rattle.std.proofs.Common.{◌≡◌, Bool, true, false, not, List, [], ◌∷◌, map, inl, inr, refl, sym, ◌∙◌, ap, subst}
+use Rattle.std.proofs.Common.{◌≡◌, Bool, true, false, not, ◌&&◌, List, [], ◌∷◌, map, inl, inr, refl, sym, ◌∙◌, ap, subst}
 use Rattle.std.specs.Prelude.{bytes_eq, is_some}
 use Rattle.std.specs.List.{list_all}
 use Rattle.std.specs.Map.{lookup}
 use Rattle.std.proofs.lemmas.Bool.{false≢true, not-true, and_parts, or_cases, or_from}
 use Rattle.std.proofs.lemmas.List.Folds.{list_all-map}
 use Rattle.std.proofs.lemmas.Map.Made.{is_some-lookup}
-use Rattle.lp_text.specs.Texts.{same_text, same_text-true, has_text}
+use Rattle.lp_text.specs.Texts.{same_text, same_text_comm, same_text-true, has_text, distinct}
+use Rattle.lp_model.specs.LibraryView.{PgPinView}
 use Rattle.lp_design.specs.Keys.{Name}
 use Rattle.lp_flat.specs.Designs.{Flat}
 use Rattle.lp_flat.specs.Netlists.{supply_port, power_port, ground_port, is_supply}
+use Rattle.lp_flat.specs.Tests.{is_pg_name, are_distinct}
 use Rattle.lp_flat.proofs.Lists.{told_apart, turned}
 use Rattle.lp_single.specs.Single.{is_reserved}
 
@@ -29,6 +31,16 @@ free-port p n e = turned n (supply_port p) (told_apart is_reserved n (supply_por
 -- a name of the source is that of no supply port
 pub free-supply : (f : Flat) (n : Name) → is_free n ≡ true → not (is_supply f n) ≡ true
 free-supply f n e = ap not (or_from (bytes_eq (power_port f) n) (bytes_eq (ground_port f) n) (free-port f.power n e) (free-port f.gnd n e))
+
+-- ---- names of power and ground pins
+
+pub has-pg : (n : Name) (gs : List PgPinView) → has_text n (map (λ (g : PgPinView). g.name) gs) ≡ is_pg_name gs n
+has-pg n [] = refl
+has-pg n (g ∷ gs) = rw (same_text_comm n g.name, has-pg n gs) refl
+
+pub pgs_apart : (gs : List PgPinView) → distinct (map (λ (g : PgPinView). g.name) gs) ≡ are_distinct gs
+pgs_apart [] = refl
+pgs_apart (g ∷ gs) = λ i. not (has-pg g.name gs i) && pgs_apart gs i
 
 module _ (p : Name → Bool) where
   -- what holds of all names holds of one of them

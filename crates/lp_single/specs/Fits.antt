@@ -1,5 +1,5 @@
 -- When a module fits the cells of the libraries: each instance has a cell that can stand in a source, joined at each signal pin once (own rule, after Liberty and IEEE 1364-2005).
-use Rattle.std.specs.Prelude.{Bool, true, false, not, ◌&&◌, List, [], ◌∷◌, ◌++◌, map, filter, Option, Some, None, is_none, flat_map, if◌then◌else◌, bytes_eq}
+use Rattle.std.specs.Prelude.{Bool, true, false, not, ◌&&◌, ◌||◌, List, [], ◌∷◌, ◌++◌, map, filter, Option, Some, None, is_none, is_some, flat_map, if◌then◌else◌, bytes_eq}
 use Rattle.std.specs.List.{list_all, list_any}
 use Rattle.lp_text.specs.Texts.{has_text, distinct}
 use Rattle.lp_model.specs.declared.library.PgKind.{PgKind}
@@ -11,7 +11,8 @@ use Rattle.lp_design.specs.Netlists.{first, is_input}
 use Rattle.lp_design.specs.Graph.{is_output_pin}
 use Rattle.lp_plain.specs.Cells.{is_plain_cell}
 use Rattle.lp_flat.specs.Tests.{has_names_apart}
-use Rattle.lp_vwrite.specs.WellFormed.{is_name, is_module}
+use Rattle.lp_vwrite.specs.WellFormed.{is_name}
+use Rattle.lp_vwrite.specs.Sound.{is_read_module}
 
 abbrev pub cell_named : List CellView → Name → Option CellView
 cell_named cells n = first (λ (c : CellView). bytes_eq c.name n) cells
@@ -35,10 +36,6 @@ is_extra InternalPower = true
 is_extra InternalGround = true
 is_extra kind = false
 
--- the power and ground pins have names that no other pin has
-abbrev pub has_pg_names : CellView → Bool
-has_pg_names c = has_names_apart c && list_all (λ (g : PgPinView). is_name g.name) c.pgs
-
 -- a cell that can be used, and is no level shifter, retention cell or switch cell and has no backup or internal pin
 abbrev pub is_taken : CellView → Bool
 is_taken c =
@@ -46,7 +43,7 @@ is_taken c =
     && (is_none c.roles.shifter
     && (is_none c.roles.retention
     && (not c.roles.switch
-    && (list_all (λ (g : PgPinView). not (is_extra g.kind)) c.pgs && has_pg_names c))))
+    && list_all (λ (g : PgPinView). not (is_extra g.kind)) c.pgs)))
 
 -- ---- connections
 
@@ -92,12 +89,12 @@ driven_nets cells m = input_ports m ++ flat_map (λ (x : InstanceView). driven_b
 
 -- ---- the tests
 
--- the module has no cell's name, every instance fits its cell, no net has two sources, and the module can be written
+-- the module has no cell's name, every instance fits its cell, and no net has two sources
 abbrev pub is_fit : List CellView → ModuleView → Bool
 is_fit cells m =
     is_none (cell_named cells m.name)
     && (list_all (λ (x : InstanceView). is_joined x (cell_named cells x.target)) m.instances
-    && (distinct (driven_nets cells m) && is_module m))
+    && distinct (driven_nets cells m))
 
 -- outputs and state of each cell are lost exactly where its one supply is not on
 abbrev pub is_plain_target : Option CellView → Bool
@@ -106,3 +103,17 @@ is_plain_target (Some c) = is_plain_cell c
 
 abbrev pub are_plain : List CellView → ModuleView → Bool
 are_plain cells m = list_all (λ (x : InstanceView). is_plain_target (cell_named cells x.target)) m.instances
+
+-- ---- what stands of everything that is read
+
+-- the power and ground pins have names that no other pin has
+abbrev pub has_pg_names : CellView → Bool
+has_pg_names c = has_names_apart c && list_all (λ (g : PgPinView). is_name g.name) c.pgs
+
+-- so it is with each cell that can be used
+abbrev pub is_read_cell : CellView → Bool
+is_read_cell c = is_some c.unusable || has_pg_names c
+
+-- cells of libraries and a module of a netlist that were read
+abbrev pub are_read : List CellView → ModuleView → Bool
+are_read cells m = list_all is_read_cell cells && is_read_module m

@@ -1,8 +1,9 @@
 -- The netlists that are taken: one module of scalars (own rule).
 use Rattle.std.specs.Prelude.{Bool, true, false, not, ◌&&◌, nat_eq, List, [], ◌∷◌, codes, is_none}
 use Rattle.std.specs.List.{list_all, starts_with}
-use Rattle.lp_model.specs.NetlistView.{BitView, NetBit, PortView, NetView, ConnectionView, ConnectionsView, ByName, ByPosition, InstanceView, AssignView, ModuleView}
+use Rattle.lp_model.specs.NetlistView.{BitView, NetBit, PortView, NetView, ConnectionView, ConnectionsView, ByName, ByPosition, InstanceView, ModuleView}
 use Rattle.lp_design.specs.Keys.{Name}
+use Rattle.lp_flat.specs.Tests.{has_no_assign}
 use Rattle.lp_vwrite.specs.WellFormed.{names_of}
 
 -- the names that are added to a netlist begin so
@@ -20,10 +21,6 @@ is_single_instance x = by x.connections
     by : ConnectionsView → Bool
     by (ByName cs) = list_all (λ (c : ConnectionView). is_scalar_bit c.bits) cs
     by (ByPosition values) = false
-
-abbrev pub has_no_assign : List AssignView → Bool
-has_no_assign [] = true
-has_no_assign (a ∷ rest) = false
 
 -- scalar ports and nets, connections by name of one net each, no assign, and no reserved name
 abbrev pub is_single_module : ModuleView → Bool

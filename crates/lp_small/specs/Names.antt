@@ -1,5 +1,5 @@
 -- Names, and lists of names.
-use Rattle.std.specs.Prelude.{ℕ, Bool, true, false, not, ◌&&◌, List, [], ◌∷◌, codes, bytes_eq}
+use Rattle.std.specs.Prelude.{ℕ, Bool, false, not, ◌&&◌, List, [], ◌∷◌, codes, bytes_eq}
 use Rattle.std.specs.List.{list_all, list_any, starts_with}
 use Rattle.std.specs.Prelude.{nat_eq}
 use Rattle.lp_token.specs.Tokens.{is_letter, is_name_byte}
@@ -24,7 +24,6 @@ is_reserved n = starts_with nat_eq n (codes "lp_")
 abbrev pub has_name : Name → List Name → Bool
 has_name n names = list_any (λ m. bytes_eq m n) names
 
--- no name stands twice
-abbrev pub is_distinct : List Name → Bool
-is_distinct [] = true
-is_distinct (n ∷ names) = not (has_name n names) && is_distinct names
+-- a name that an intent may give
+abbrev pub is_free_name : Name → Bool
+is_free_name n = is_simple_name n && not (is_reserved n)

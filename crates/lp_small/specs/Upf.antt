@@ -2,7 +2,7 @@
 use Rattle.std.specs.Prelude.{◌≡◌, ℕ, not, ◌≤◌, List, [], ◌∷◌, ◌++◌, length, codes, IsTrue, Some, bytes_eq}
 use Rattle.lp_text.specs.Micros.{micros_of}
 use Rattle.lp_small.specs.declared.intent.Intent.{Intent}
-use Rattle.lp_small.specs.Liberty.{is_free_name}
+use Rattle.lp_small.specs.Names.{is_free_name}
 
 -- pieces of a text, one after another
 abbrev pub joined : List (List ℕ) → List ℕ

@@ -11,7 +11,7 @@ use Rattle.lp_text.specs.declared.shelf.TheConstants.{LIMIT}
 use Rattle.lp_token.specs.Tokens.{is_name_byte}
 use Rattle.lp_small.specs.declared.intent.Intent.{Intent}
 use Rattle.lp_small.specs.Names.{Name}
-use Rattle.lp_small.specs.Liberty.{is_free_name}
+use Rattle.lp_small.specs.Names.{is_free_name}
 use Rattle.lp_small.specs.Upf.{IsIntent, intent_text}
 use Rattle.lp_small_upf.specs.Reading.{◌>>=◌, expect_at, before_at, all_at, name_at, named_at, voltage_at, spelled_at, intent_at, power_pieces, gnd_pieces, set_pieces, domain_pieces, state_pieces}
 

@@ -8,7 +8,7 @@ use Rattle.lp_text.specs.declared.shelf.TheConstants.{LIMIT}
 use Rattle.lp_token.specs.Tokens.{is_name_byte}
 use Rattle.lp_small.specs.declared.intent.Intent.{Intent}
 use Rattle.lp_small.specs.Names.{Name}
-use Rattle.lp_small.specs.Liberty.{is_free_name}
+use Rattle.lp_small.specs.Names.{is_free_name}
 
 infixl 10 ◌>>=◌
 abbrev pub ◌>>=◌ : {A B : Type 0} → Option A → (A → Option B) → Option B

@@ -3,7 +3,7 @@ ghost use Rattle.std.specs.List.{list_all, prefix_len};
 ghost use Rattle.std.specs.Option.{option_map};
 ghost use Rattle.lp_token.specs.Tokens.{is_letter, is_name_byte};
 ghost use Rattle.lp_small.specs.Names.{begins_with_letter};
-ghost use Rattle.lp_small.specs.Liberty.{is_free_name};
+ghost use Rattle.lp_small.specs.Names.{is_free_name};
 ghost use Rattle.lp_small_upf.specs.Reading.{name_at};
 
 fn is_letter(b: u8) -> bool

@@ -25,7 +25,7 @@ use Rattle.lp_verilog_tokens.specs.Lexical.{is_visible}
 use Rattle.lp_vwrite.specs.Layout.{layout}
 use Rattle.lp_vwrite.specs.WellFormed.{IsWellFormed, HasTable}
 use Rattle.lp_single.specs.Single.{is_single_module}
-use Rattle.lp_single.specs.Fits.{is_fit, are_plain}
+use Rattle.lp_single.specs.Fits.{are_read, is_fit, are_plain}
 use Rattle.lp_single.specs.Flats.{flat_of}
 use Rattle.lp_small.specs.declared.intent.Intent.{Intent}
 use Rattle.lp_insertion.specs.Inputs.{Inputs, Accepts}
@@ -41,8 +41,8 @@ use Rattle.lp_top.specs.declared.design.Refusal.TheVariants as refusals
 use Rattle.lp_top.specs.Design.{RefusedBy, GivesFault, GivesTexts, OfStop}
 
 module _ (inputs : Inputs) (a : Accepted) (is : IsAccepted inputs a) (margin : ℕ)
-    (fits_flat : (cells : List CellView) (m : ModuleView) (power gnd : Name) (margin : ℕ) → is_single_module m ≡ true → is_fit cells m ≡ true → are_plain cells m ≡ true → bytes_eq power gnd ≡ false → is_flat (flat_of cells m power gnd margin) ≡ true)
-    (well_formed : (cells : List CellView) (m : ModuleView) (power gnd : Name) (margin : ℕ) → is_single_module m ≡ true → is_fit cells m ≡ true → bytes_eq power gnd ≡ false → list_all is_visible power ≡ true → list_all is_visible gnd ≡ true → IsWellFormed (powered (flat_of cells m power gnd margin) ∷ []))
+    (fits_flat : (cells : List CellView) (m : ModuleView) (power gnd : Name) (margin : ℕ) → is_single_module m ≡ true → are_read cells m ≡ true → is_fit cells m ≡ true → are_plain cells m ≡ true → bytes_eq power gnd ≡ false → is_flat (flat_of cells m power gnd margin) ≡ true)
+    (well_formed : (cells : List CellView) (m : ModuleView) (power gnd : Name) (margin : ℕ) → is_single_module m ≡ true → are_read cells m ≡ true → is_fit cells m ≡ true → bytes_eq power gnd ≡ false → list_all is_visible power ≡ true → list_all is_visible gnd ≡ true → IsWellFormed (powered (flat_of cells m power gnd margin) ∷ []))
     (back : (v : List ModuleView) → IsWellFormed v → HasTable v → Reads (layout v) v)
     (alone : (v w : List ModuleView) → IsWellFormed v → HasTable v → Reads (layout v) w → w ≡ v)
     (supplied : (f : Flat) → is_flat f ≡ true → is_supplied (netlist_of f) ≡ true)
@@ -63,10 +63,10 @@ module _ (inputs : Inputs) (a : Accepted) (is : IsAccepted inputs a) (margin : �
   fit = is.accepts.all.fit.fits
 
   flat : is_flat f ≡ true
-  flat = fits_flat (cells_of a) (source_of a) a.intent.power a.intent.gnd margin single fit is.accepts.plain apart
+  flat = fits_flat (cells_of a) (source_of a) a.intent.power a.intent.gnd margin single is.read fit is.accepts.plain apart
 
   good : IsWellFormed (written ∷ [])
-  good = well_formed (cells_of a) (source_of a) a.intent.power a.intent.gnd margin single fit apart is.power_visible is.gnd_visible
+  good = well_formed (cells_of a) (source_of a) a.intent.power a.intent.gnd margin single is.read fit apart is.power_visible is.gnd_visible
 
   design : HasDesign inputs
   design = record { cells = cells_of a; source = source_of a; intent = a.intent; accepts = is.accepts }

@@ -5,10 +5,12 @@ use Rattle.lp_model.specs.declared.netlist.Module.{Module}
 use Rattle.lp_model.specs.Agreement.{numbers_below}
 use Rattle.lp_model.specs.LibraryView.{cell_view, cell_numbers, library_view}
 use Rattle.lp_model.specs.NetlistView.{netlist_view, module_view, module_numbers}
+use Rattle.lp_single.specs.Fits.{are_read}
+use Rattle.lp_accept.specs.Inputs.{inputs_of}
 use Rattle.lp_accept.specs.Stages.{OrStop}
 use Rattle.lp_accept.specs.Read.{IsModules}
 use Rattle.lp_accept.specs.Judged.{IsOne, Judged, Unjudged}
-use Rattle.lp_accept.proofs.Accepting.{still-cells, few-cells, exit-netlist, exit-one, exit-judge, accepted}
+use Rattle.lp_accept.proofs.Accepting.{both, still-cells, few-cells, exit-netlist, exit-one, exit-judge, accepted}
 use Rattle.lp_accept.proofs.accepted.accept.Goals as goal
 
 pub returns-in-Err-read_modules : goal.returns-in-Err-read_modules
@@ -28,6 +30,15 @@ judge-requires-clause-cells c =
     let still = still-cells c.read_library.new.names c.read_modules.new.names c.in-Ok-read_modules.ensures.grown c.args.libs.now c.in-Ok.library c.in-Ok.ensures.gives in
     ap (λ cs. numbers_below (length c.read_modules.new.names) (flat_map cell_numbers cs)) c.as_slice.ensures ∙ still.below
 
+pub judge-requires-clause-read : goal.judge-requires-clause-read
+judge-requires-clause-read c =
+    let names = c.read_modules.new.names in
+    let still = still-cells c.read_library.new.names names c.in-Ok-read_modules.ensures.grown c.args.libs.now c.in-Ok.library c.in-Ok.ensures.gives in
+    let m = module_view names c.in-Ok-one_module.source in
+    let read = c.inputs_are_read.ensures (inputs_of c.args.libs.now c.args.netlist.now c.args.upf.now) (library_view names c.in-Ok.library) m
+    (both c.args.libs.now c.args.netlist.now c.args.upf.now (library_view names c.in-Ok.library) m still.has (netlist_view names c.in-Ok-read_modules.modules) c.in-Ok-read_modules.ensures.gives.has c.in-Ok-one_module.ensures.gives.0) in
+    ap (λ cs. are_read (map (cell_view names) cs) m) c.as_slice.ensures ∙ read
+
 pub judge-requires-clause-few_cells : goal.judge-requires-clause-few_cells
 judge-requires-clause-few_cells c =
     let few = few-cells c.read_library.new.names c.args.libs.now c.in-Ok.library c.in-Ok.ensures.gives in
@@ -43,7 +54,7 @@ returns-in-Ok-judge c =
     let few = few-cells c.read_library.new.names c.args.libs.now c.in-Ok.library c.in-Ok.ensures.gives in
     let short = c.in-Ok.ensures.short in
     let few_names = c.in-Ok-read_modules.ensures.short in
-    accepted c.args.libs.now c.args.netlist.now c.args.upf.now c.ordered_has_no_loop.ensures
+    accepted c.args.libs.now c.args.netlist.now c.args.upf.now c.ordered_has_no_loop.ensures (c.inputs_are_read.ensures (inputs_of c.args.libs.now c.args.netlist.now c.args.upf.now))
     (record { names = names; library = c.in-Ok.library; source = source; intent = c.in-Ok-judge.intent })
     still (omega (arith, few, short)) few_names (netlist_view names c.in-Ok-read_modules.modules) c.in-Ok-read_modules.ensures.gives.has c.in-Ok-one_module.ensures.gives.0 c.in-Ok-one_module.ensures.gives.1
     (subst (λ cs. Judged (map (cell_view names) cs) (module_view names source) c.args.upf.now c.in-Ok-judge.intent) c.as_slice.ensures c.in-Ok-judge.ensures)

@@ -1,14 +1,13 @@
-use Rattle.std.proofs.Common.{◌≡◌, ℕ, true, false, length, map, inr, sym, ◌∙◌, subst, arith}
-use Rattle.std.specs.Prelude.{bytes_eq}
+use Rattle.std.proofs.Common.{◌≡◌, ℕ, true, length, map, inr, sym, ◌∙◌, subst, arith}
 use Rattle.std.specs.Bool.{OnTrue}
 use Rattle.lp_model.specs.LibraryView.{cell_view}
 use Rattle.lp_model.specs.NetlistView.{module_view}
 use Rattle.lp_design.specs.Keys.{Name}
 use Rattle.lp_single.specs.Single.{is_single_module}
-use Rattle.lp_single.specs.Fits.{is_fit}
+use Rattle.lp_single.specs.Fits.{are_read, is_fit}
 use Rattle.lp_single.specs.Flats.{HasLoop, flat_of}
 use Rattle.lp_accept.specs.Judged.{Sound}
-use Rattle.lp_accept.proofs.Judging.{fit-few, unsound}
+use Rattle.lp_accept.proofs.Judging.{read-few, unsound}
 use Rattle.lp_accept.proofs.Accepting.{names-below}
 use Rattle.lp_accept.proofs.judge.check_sound.Goals as goal
 
@@ -17,7 +16,7 @@ are_plain-requires-clause-cells c = names-below (length c.args.names.now) c.args
 
 pub has_loop-requires-clause-small : goal.has_loop-requires-clause-small
 has_loop-requires-clause-small c =
-    let few = fit-few c.args.names.now (map (cell_view c.args.names.now) c.args.index.now) c.args.source.now c.requires.source c.requires.fits.fits in
+    let few = read-few c.args.names.now (map (cell_view c.args.names.now) c.args.index.now) c.args.source.now c.requires.source c.requires.read in
     let names = c.requires.few in
     omega (arith, few, names)
 
@@ -26,6 +25,6 @@ returns-then-looped c =
     let names = c.args.names.now in
     let cells = map (cell_view names) c.args.index.now in
     let m = module_view names c.args.source.now in
-    let loops = subst (λ b. OnTrue b ((power gnd : Name) (margin : ℕ) → is_single_module m ≡ true → is_fit cells m ≡ true → bytes_eq power gnd ≡ false → HasLoop (flat_of cells m power gnd margin))) c.if-looped.true c.in_ok-looped.ensures.looped in
+    let loops = subst (λ b. OnTrue b ((power gnd : Name) (margin : ℕ) → is_single_module m ≡ true → are_read cells m ≡ true → is_fit cells m ≡ true → HasLoop (flat_of cells m power gnd margin))) c.if-looped.true c.in_ok-looped.ensures.looped in
     unsound {T = Unit {0}} (λ _. Sound cells m) cells m c.not_yet-then-looped.result c.not_yet-then-looped.ensures
-    (inr (sym c.in_ok-plain.ensures ∙ c.if-not-plain.false, λ power gnd margin apart. loops power gnd margin c.requires.single c.requires.fits.fits apart))
+    (inr (sym c.in_ok-plain.ensures ∙ c.if-not-plain.false, λ power gnd margin. loops power gnd margin c.requires.single c.requires.read c.requires.fits.fits))

@@ -20,7 +20,7 @@ returns-clause-ordered c =
     let texts = c.args.names.now in
     let same = rows_same texts c.count.ensures.distinct c.args.index.now c.args.source.now c.requires.cells c.requires.source in
     OnFalse-map c.in_ok-looped.looped
-    (λ h power gnd margin single fit apart. order_is (map (cell_view texts) c.args.index.now) (module_view texts c.args.source.now) power gnd margin single fit (subst order.HasOrder same h))
+    (λ h power gnd margin single read fit. order_is (map (cell_view texts) c.args.index.now) (module_view texts c.args.source.now) power gnd margin single read fit (subst order.HasOrder same h))
     c.in_ok-looped.ensures.ordered
 
 pub returns-clause-looped : goal.returns-clause-looped
@@ -28,5 +28,5 @@ returns-clause-looped c =
     let texts = c.args.names.now in
     let same = rows_same texts c.count.ensures.distinct c.args.index.now c.args.source.now c.requires.cells c.requires.source in
     OnTrue-map c.in_ok-looped.looped
-    (λ h power gnd margin single fit apart. loop_is (map (cell_view texts) c.args.index.now) (module_view texts c.args.source.now) power gnd margin single fit (subst order.HasLoop same h))
+    (λ h power gnd margin single read fit. loop_is (map (cell_view texts) c.args.index.now) (module_view texts c.args.source.now) power gnd margin single read fit (subst order.HasLoop same h))
     c.in_ok-looped.ensures.looped
