@@ -15,14 +15,14 @@ use Rattle.lp_model.specs.LibraryView.{CellView, cell_view, library_view, librar
 use Rattle.lp_cells.specs.Cells.{cell_names}
 use Rattle.lp_cells.specs.Reasons.{repeated}
 use Rattle.lp_verilog_tokens.specs.Lexical.{is_visible}
-use Rattle.lp_small.specs.Names.{Name, is_simple_name, begins_with_letter, is_reserved, is_free_name}
-use Rattle.lp_small.specs.declared.intent.Intent.{Intent}
-use Rattle.lp_single.specs.Fits.{are_read}
-use Rattle.lp_single.specs.Flats.{HasLoop, IsOrdered, flat_of}
-use Rattle.lp_flat.specs.Designs.{Flat}
-use Rattle.lp_index.proofs.Numbers.{below-left, below-right}
-use Rattle.lp_insertion.specs.Inputs.{Inputs, HasCells, HasModules, ReadsBoth, FitsCells, ReadsAll, Accepts}
-use Rattle.lp_insertion.specs.Faults.{IsRefused, FirstFault, library_off, cell_twice, netlist_off, not_single, no_target, no_fit, no_intent, not_plain, loop}
+use Rattle.lp_plain_upf.specs.Names.{Name, is_simple_name, begins_with_letter, is_reserved, is_free_name}
+use Rattle.lp_plain_upf.specs.declared.plain.Intent.{Intent}
+use Rattle.lp_spec_plain_netlist.specs.Fits.{are_read}
+use Rattle.lp_spec_plain_netlist.specs.Flats.{HasLoop, IsOrdered, flat_of}
+use Rattle.lp_spec_plain_module.specs.Designs.{Flat}
+use Rattle.lp_plain_index.proofs.Numbers.{below-left, below-right}
+use Rattle.lp_spec_insertion.specs.Inputs.{Inputs, HasCells, HasModules, ReadsBoth, FitsCells, ReadsAll, Accepts}
+use Rattle.lp_spec_insertion.specs.Faults.{IsRefused, FirstFault, library_off, cell_twice, netlist_off, not_single, no_target, no_fit, no_intent, not_plain, loop}
 use Rattle.lp_accept.specs.declared.stop.Stop.{Stop}
 use Rattle.lp_accept.specs.declared.stop.Stop.TheVariants as stops
 use Rattle.lp_accept.specs.declared.accepted.Accepted.{Accepted}

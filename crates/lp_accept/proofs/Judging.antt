@@ -15,17 +15,17 @@ use Rattle.lp_model.specs.declared.netlist.Instance.{Instance}
 use Rattle.lp_model.specs.declared.library.Cell.{Cell}
 use Rattle.lp_model.specs.NetlistView.{PortView, NetView, InstanceView, ModuleView, port_view, net_view, module_view, port_numbers, net_numbers, instance_numbers, assign_numbers, module_numbers}
 use Rattle.lp_model.specs.LibraryView.{CellView, cell_view, cell_numbers}
-use Rattle.lp_small.specs.declared.intent.Intent.{Intent}
-use Rattle.lp_small.specs.Upf.{IsIntent}
+use Rattle.lp_plain_upf.specs.declared.plain.Intent.{Intent}
+use Rattle.lp_plain_upf.specs.Upf.{IsIntent}
 use Rattle.lp_cells.specs.Reasons.{repeated}
-use Rattle.lp_index.proofs.Numbers.{below-left, below-right, below-tail}
+use Rattle.lp_plain_index.proofs.Numbers.{below-left, below-right, below-tail}
 use Rattle.lp_vwrite.specs.WellFormed.{names_of, is_name, is_net, is_assign}
 use Rattle.lp_vwrite.specs.Sound.{is_read_instance, is_read_module}
 use Rattle.lp_vwrite.specs.Layout.{declared}
-use Rattle.lp_single.specs.Single.{is_single, is_single_module}
-use Rattle.lp_single.specs.Fits.{first_unknown, is_fit, are_plain, is_read_cell, are_read}
-use Rattle.lp_single.specs.Flats.{flat_of, HasLoop, IsOrdered}
-use Rattle.lp_insertion.specs.Faults.{not_yet, unknown_module}
+use Rattle.lp_spec_plain_netlist.specs.Single.{is_single, is_single_module}
+use Rattle.lp_spec_plain_netlist.specs.Fits.{first_unknown, is_fit, are_plain, is_read_cell, are_read}
+use Rattle.lp_spec_plain_netlist.specs.Flats.{flat_of, HasLoop, IsOrdered}
+use Rattle.lp_spec_insertion.specs.Faults.{not_yet, unknown_module}
 use Rattle.lp_accept.specs.declared.stop.Stop.{Stop}
 use Rattle.lp_accept.specs.declared.stop.Stop.TheVariants as stops
 use Rattle.lp_accept.specs.Stages.{IsLine, OrStop}

@@ -11,9 +11,9 @@ use Rattle.lp_model.specs.declared.library.Cell.{Cell}
 use Rattle.lp_model.specs.declared.netlist.Instance.{Instance}
 use Rattle.lp_model.specs.NetlistView.{connections_numbers, instance_numbers}
 use Rattle.lp_model.specs.LibraryView.{cell_view}
-use Rattle.lp_plain.specs.Cells.{is_plain_cell}
-use Rattle.lp_index.proofs.Numbers.{below-left, below-right, below-head, below-tail}
-use Rattle.lp_single.specs.Fits.{cell_named, is_plain_target}
+use Rattle.lp_spec_plain.specs.Cells.{is_plain_cell}
+use Rattle.lp_plain_index.proofs.Numbers.{below-left, below-right, below-head, below-tail}
+use Rattle.lp_spec_plain_netlist.specs.Fits.{cell_named, is_plain_target}
 
 abbrev pub flag_at : List Bool → Option ℕ → Bool
 flag_at fs None = false

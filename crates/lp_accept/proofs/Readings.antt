@@ -21,8 +21,8 @@ use Rattle.lp_liberty.specs.Denotes.{Denotes, RefusedAs, Large, Long, Deep, Off}
 use Rattle.lp_liberty.specs.Denotes as off
 use Rattle.lp_cells.specs.Cells.{RefusesLibrary, Duplicate, NoMemory, cells_of, cell_names}
 use Rattle.lp_cells.specs.Reasons.{repeated}
-use Rattle.lp_insertion.specs.Inputs.{HaveGroups}
-use Rattle.lp_insertion.specs.Faults.{IsOff, FirstOff, HasTwice, duplicate_cell}
+use Rattle.lp_spec_insertion.specs.Inputs.{HaveGroups}
+use Rattle.lp_spec_insertion.specs.Faults.{IsOff, FirstOff, HasTwice, duplicate_cell}
 use Rattle.lp_accept.specs.declared.stop.Stop.{Stop}
 use Rattle.lp_accept.specs.declared.stop.Stop.TheVariants as stops
 use Rattle.lp_accept.specs.Stages.{IsLine, OrStop}

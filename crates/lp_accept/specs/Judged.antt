@@ -4,16 +4,16 @@ use Rattle.std.specs.List.{list_all}
 use Rattle.lp_model.specs.Agreement.{numbers_below}
 use Rattle.lp_model.specs.NetlistView.{InstanceView, ModuleView, module_view, module_numbers}
 use Rattle.lp_model.specs.LibraryView.{CellView, cell_view, library_view, library_numbers}
-use Rattle.lp_design.specs.Keys.{Name}
-use Rattle.lp_flat.specs.Designs.{Flat}
+use Rattle.lp_spec_design.specs.Keys.{Name}
+use Rattle.lp_spec_plain_module.specs.Designs.{Flat}
 use Rattle.lp_verilog_tokens.specs.Lexical.{is_visible}
-use Rattle.lp_small.specs.declared.intent.Intent.{Intent}
-use Rattle.lp_small.specs.Upf.{IsIntent}
-use Rattle.lp_single.specs.Single.{is_single, is_single_module}
-use Rattle.lp_single.specs.Fits.{first_unknown, is_fit, are_plain, are_read}
-use Rattle.lp_single.specs.Flats.{flat_of, HasLoop, IsOrdered}
-use Rattle.lp_insertion.specs.Inputs.{Inputs, Accepts}
-use Rattle.lp_insertion.specs.Faults.{not_yet, unknown_module}
+use Rattle.lp_plain_upf.specs.declared.plain.Intent.{Intent}
+use Rattle.lp_plain_upf.specs.Upf.{IsIntent}
+use Rattle.lp_spec_plain_netlist.specs.Single.{is_single, is_single_module}
+use Rattle.lp_spec_plain_netlist.specs.Fits.{first_unknown, is_fit, are_plain, are_read}
+use Rattle.lp_spec_plain_netlist.specs.Flats.{flat_of, HasLoop, IsOrdered}
+use Rattle.lp_spec_insertion.specs.Inputs.{Inputs, Accepts}
+use Rattle.lp_spec_insertion.specs.Faults.{not_yet, unknown_module}
 use Rattle.lp_accept.specs.declared.accepted.Accepted.{Accepted}
 
 -- the one module of a netlist

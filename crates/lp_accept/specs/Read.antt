@@ -9,8 +9,8 @@ use Rattle.lp_model.specs.GroupsView.{groups_view, groups_numbers}
 use Rattle.lp_model.specs.LibraryView.{library_view, library_numbers}
 use Rattle.lp_model.specs.NetlistView.{netlist_view, netlist_numbers}
 use Rattle.lp_liberty.specs.Denotes.{Denotes}
-use Rattle.lp_insertion.specs.Inputs.{HaveGroups, HasCells, HasModules}
-use Rattle.lp_insertion.specs.Faults.{FirstOff, HasTwice}
+use Rattle.lp_spec_insertion.specs.Inputs.{HaveGroups, HasCells, HasModules}
+use Rattle.lp_spec_insertion.specs.Faults.{FirstOff, HasTwice}
 
 -- the groups of a text, over the names of a table
 pub record IsGroups (names : List (List ℕ)) (text : List ℕ) (g : Groups) : Type 0 where

@@ -1,5 +1,5 @@
 ghost use Rattle.std.specs.Prelude.{◌≤◌, length};
-ghost use Rattle.lp_insertion.specs.Faults.{FirstFault};
+ghost use Rattle.lp_spec_insertion.specs.Faults.{FirstFault};
 ghost use Rattle.lp_accept.specs.Stages.{OrStop};
 ghost use Rattle.lp_accept.specs.Inputs.{inputs_of};
 ghost use Rattle.lp_accept.specs.Judged.{IsAccepted};
@@ -8,10 +8,10 @@ use crate::judge::{judge, one_module};
 use crate::libraries::read_library;
 use crate::netlist::read_modules;
 use crate::stop::Stop;
-use lp_insertion::inputs_are_read;
 use lp_model::{Library, Module};
-use lp_single::ordered_has_no_loop;
-use lp_small::Intent;
+use lp_plain_upf::Intent;
+use lp_spec_insertion::inputs_are_read;
+use lp_spec_plain_netlist::ordered_has_no_loop;
 use lp_text::{Bytes, Names};
 use std::alloc::Global;
 

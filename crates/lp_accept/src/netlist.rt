@@ -1,6 +1,6 @@
 ghost use Rattle.std.specs.Prelude.{◌≡◌, ◌≤◌, ◌+◌, length, IfOk};
 ghost use Rattle.lp_text.specs.Texts.{Grown};
-ghost use Rattle.lp_insertion.specs.Faults.{IsRefused};
+ghost use Rattle.lp_spec_insertion.specs.Faults.{IsRefused};
 ghost use Rattle.lp_accept.specs.Stages.{OrStop};
 ghost use Rattle.lp_accept.specs.Read.{IsModules};
 

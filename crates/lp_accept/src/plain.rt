@@ -4,12 +4,12 @@ ghost use Rattle.lp_text.specs.Texts.{text_at};
 ghost use Rattle.lp_model.specs.Agreement.{numbers_below};
 ghost use Rattle.lp_model.specs.LibraryView.{cell_view};
 ghost use Rattle.lp_model.specs.NetlistView.{instance_numbers, module_view, module_numbers};
-ghost use Rattle.lp_plain.specs.Cells.{is_plain_cell};
-ghost use Rattle.lp_single.specs.Fits.{cell_named, is_plain_target, are_plain};
+ghost use Rattle.lp_spec_plain.specs.Cells.{is_plain_cell};
+ghost use Rattle.lp_spec_plain_netlist.specs.Fits.{cell_named, is_plain_target, are_plain};
 
-use lp_even::is_plain;
-use lp_index::CellIndex;
 use lp_model::{Cell, Instance, Module};
+use lp_plain_cells::is_plain;
+use lp_plain_index::CellIndex;
 use lp_text::{NameId, Names, NoMemory};
 use std::alloc::Global;
 

@@ -3,7 +3,7 @@ use Rattle.std.proofs.Common.{◌≡◌, ℕ, ◌≤◌, ◌<◌, ◌⊎◌, inl
 use Rattle.std.specs.Prelude.{cond, nat_le, unwrap_or}
 use Rattle.std.specs.Option.{option_map}
 use Rattle.std.proofs.lemmas.Bool.{le-leb, lt-leb, leb-true, leb-false}
-use Rattle.lp_place.specs.Leaving.{Leaves, leaves_none}
+use Rattle.lp_spec_place.specs.Leaving.{Leaves, leaves_none}
 use Rattle.lp_tern.specs.Expression.{Expression}
 use Rattle.lp_expr.specs.Formula.{Formula}
 use Rattle.lp_expr.specs.declared.dialect.Dialect.TheVariants.{Liberty}

@@ -4,7 +4,7 @@ use Rattle.std.specs.Prelude.{nat_le, nat_lt, IsTrue, option_and_then}
 use Rattle.std.specs.List.{list_all}
 use Rattle.std.proofs.lemmas.List.{append-nil}
 use Rattle.std.proofs.lemmas.Bool.{true≢false, eqb-true, le-leb, leb-true, ltb-true}
-use Rattle.lp_place.specs.Machines.{steps, steps-append}
+use Rattle.lp_spec_place.specs.Machines.{steps, steps-append}
 use Rattle.lp_expr.specs.declared.dialect.Dialect.{Dialect}
 use Rattle.lp_expr.specs.declared.dialect.Dialect.TheVariants.{Liberty, Control}
 use Rattle.lp_expr.specs.declared.dialect.Sign.{Sign}

@@ -10,7 +10,7 @@ use Rattle.lp_expr.specs.declared.dialect.Dialect.TheVariants.{Liberty, Control}
 use Rattle.lp_expr.specs.declared.dialect.Sign.{Sign}
 use Rattle.lp_expr.specs.declared.dialect.Sign.TheVariants.{Caret, Star, Ampersand, Gap, Plus, Bar, TwoAmpersands, TwoBars}
 use Rattle.lp_expr.specs.Grammar.{Tree, Plain, Quoted, Group, Prefixed, Postfixed, Joined, is_blank, is_inner, is_prefix, is_liberty, looseness, is_filled, sign_bytes, spelling, height, lead, are_blank, is_name, fits_gap, is_tree}
-use Rattle.lp_place.specs.Machines.{steps}
+use Rattle.lp_spec_place.specs.Machines.{steps}
 use Rattle.lp_expr.specs.Signs.{sign_at, is_half, longer}
 use Rattle.lp_expr.proofs.Zipper.{Frame, Open, Pending, Left, State, Want, InName, InQuotes, Have, Half, closed, behind_sign, begin, wanting, shut, on_sign, follow, on_longer, step, start, whole, result_of}
 

@@ -2,8 +2,8 @@
 use Rattle.std.proofs.Common.{◌≡◌, ℕ, ◌⊎◌, inl, inr, ◌≤◌, true, cond, List, [], ◌∷◌, ◌++◌, length, take, drop, Option, Some, None, refl, sym, ap, ◌∙◌}
 use Rattle.std.specs.Prelude.{is_some, option_and_then}
 use Rattle.std.proofs.lemmas.Bool.{true≢false, le-leb}
-use Rattle.lp_place.specs.Leaving.{Leaves}
-use Rattle.lp_place.specs.Machines.{steps, Stops, Recognizes, Finishes, leaves}
+use Rattle.lp_spec_place.specs.Leaving.{Leaves}
+use Rattle.lp_spec_place.specs.Machines.{steps, Stops, Recognizes, Finishes, leaves}
 use Rattle.lp_expr.specs.declared.dialect.Dialect.{Dialect}
 use Rattle.lp_expr.specs.declared.dialect.Sign.{Sign}
 use Rattle.lp_expr.specs.Grammar.{Tree, Plain, Quoted, Group, Prefixed, Joined, is_inner, looseness, Spells, IsExpression}

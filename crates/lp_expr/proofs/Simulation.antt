@@ -5,7 +5,7 @@ use Rattle.std.proofs.lemmas.List.{append-nil, map-append, length-drop, take-app
 use Rattle.std.specs.List.{list_all}
 use Rattle.std.proofs.lemmas.Bool.{lt-ltb, ltb-true, ltb-false, le-leb}
 use Rattle.std.proofs.lemmas.List.Folds.{list_all-append}
-use Rattle.lp_place.specs.Machines.{steps}
+use Rattle.lp_spec_place.specs.Machines.{steps}
 use Rattle.lp_expr.specs.declared.dialect.Dialect.{Dialect}
 use Rattle.lp_expr.specs.declared.dialect.Sign.{Sign}
 use Rattle.lp_expr.specs.declared.dialect.Sign.TheVariants as signs
@@ -17,8 +17,8 @@ use Rattle.lp_expr.specs.declared.dialect.Part as part
 use Rattle.lp_expr.specs.declared.dialect.Part.TheVariants as parts
 use Rattle.lp_expr.specs.Grammar.{Tree, Plain, Quoted, Prefixed, Postfixed, Joined, is_blank, is_inner, is_prefix, is_liberty, looseness, is_filled}
 use Rattle.lp_expr.specs.Signs.{sign_at, is_half, longer}
-use Rattle.lp_place.specs.Leaving.{Leaves}
-use Rattle.lp_place.specs.Machines.{Stops, steps-append}
+use Rattle.lp_spec_place.specs.Leaving.{Leaves}
+use Rattle.lp_spec_place.specs.Machines.{Stops, steps-append}
 use Rattle.lp_expr.specs.Grammar.{IsExpression}
 use Rattle.lp_expr.specs.Parts.{ReadsParts}
 use Rattle.lp_expr.proofs.Leaving.{spells, leaves_at}

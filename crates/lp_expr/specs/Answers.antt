@@ -1,6 +1,6 @@
 -- What the readers of expressions answer.
 use Rattle.std.specs.Prelude.{ℕ, List}
-use Rattle.lp_place.specs.Leaving.{Leaves}
+use Rattle.lp_spec_place.specs.Leaving.{Leaves}
 use Rattle.lp_expr.specs.declared.dialect.Dialect.{Dialect}
 use Rattle.lp_expr.specs.declared.read.ExprFault.{ExprFault}
 use Rattle.lp_expr.specs.declared.read.ExprFault.TheVariants as faults

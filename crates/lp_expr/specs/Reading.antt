@@ -1,7 +1,7 @@
 -- What the reader of parts answers.
 use Rattle.std.specs.Prelude.{◌≡◌, ℕ, List, Result, Ok, Err}
 use Rattle.std.specs.Global.{Vec}
-use Rattle.lp_place.specs.Leaving.{Leaves}
+use Rattle.lp_spec_place.specs.Leaving.{Leaves}
 use Rattle.lp_expr.specs.declared.dialect.Dialect.{Dialect}
 use Rattle.lp_expr.specs.declared.dialect.Part.{Part}
 use Rattle.lp_expr.specs.declared.parts.PartsFault.{PartsFault}

@@ -5,7 +5,7 @@ ghost use Rattle.lp_tern.specs.declared.tern.Tern.TheVariants.{Zero, One};
 ghost use Rattle.lp_tern.specs.Expression.{Expression};
 ghost use Rattle.lp_expr.specs.Formula.{Formula, truth, value_of};
 ghost use Rattle.lp_expr.specs.Replaces.{Replaces};
-ghost use Rattle.lp_place.specs.Leaving.{Leaves};
+ghost use Rattle.lp_spec_place.specs.Leaving.{Leaves};
 ghost use Rattle.lp_expr.specs.declared.dialect.Dialect.{Dialect};
 ghost use Rattle.lp_expr.specs.Grammar.{IsExpression, Spells};
 ghost use Rattle.lp_expr.specs.Postfix.{postfix, holds_where};

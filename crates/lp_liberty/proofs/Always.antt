@@ -1,7 +1,7 @@
 -- Where groups may be of any depth, the machine goes on as with a limit, but for the brace of a group that is too deep.
 use Rattle.std.proofs.Common.{◌≡◌, ℕ, Bool, true, false, List, [], ◌∷◌, Option, Some, None, refl, ap, ◌∙◌}
 use Rattle.std.specs.Prelude.{if◌then◌else◌, option_and_then}
-use Rattle.lp_place.specs.Machines.{steps}
+use Rattle.lp_spec_place.specs.Machines.{steps}
 use Rattle.lp_liberty.specs.declared.mark.Mark.{Mark}
 use Rattle.lp_liberty.specs.declared.mark.Mark.TheVariants as marks
 use Rattle.lp_liberty.specs.declared.mark.Mode.{Mode}

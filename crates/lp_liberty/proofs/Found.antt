@@ -5,7 +5,7 @@ use Rattle.std.specs.List.{list_all}
 use Rattle.std.proofs.lemmas.List.{append-nil}
 use Rattle.std.proofs.lemmas.Bool.{true≢false, lt-ltb}
 use Rattle.std.proofs.lemmas.List.Folds.{list_all-append}
-use Rattle.lp_place.specs.Machines.{steps}
+use Rattle.lp_spec_place.specs.Machines.{steps}
 use Rattle.lp_liberty.specs.declared.mark.Mark.{Mark}
 use Rattle.lp_liberty.specs.declared.mark.Mark.TheVariants as marks
 use Rattle.lp_liberty.specs.declared.mark.Last as last

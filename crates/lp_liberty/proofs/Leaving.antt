@@ -4,8 +4,8 @@ use Rattle.std.specs.Prelude.{nat_lt, IsTrue, option_and_then}
 use Rattle.std.specs.List.{list_all}
 use Rattle.std.proofs.lemmas.List.{append-nil}
 use Rattle.std.proofs.lemmas.Bool.{true≢false, ltb-true}
-use Rattle.lp_place.specs.Leaving.{Leaves}
-use Rattle.lp_place.specs.Machines.{steps, steps-append, Stops, Recognizes, Finishes, leaves}
+use Rattle.lp_spec_place.specs.Leaving.{Leaves}
+use Rattle.lp_spec_place.specs.Machines.{steps, steps-append, Stops, Recognizes, Finishes, leaves}
 use Rattle.lp_liberty.specs.declared.mark.Mark.{Mark}
 use Rattle.lp_liberty.specs.declared.mark.Mark.TheVariants as marks
 use Rattle.lp_liberty.specs.declared.mark.Last as last

@@ -3,7 +3,7 @@ use Rattle.std.proofs.Common.{◌≡◌, ℕ, zero, suc, ◌<◌, ◌≤◌, ◌
 use Rattle.std.specs.Prelude.{IsTrue, nat_le}
 use Rattle.std.proofs.lemmas.Bool.{true≢false, leb-true}
 use Rattle.std.proofs.lemmas.List.{take-append-drop, length-map, take_all}
-use Rattle.lp_place.specs.Leaving.{Leaves, one_place}
+use Rattle.lp_spec_place.specs.Leaving.{Leaves, one_place}
 use Rattle.lp_text.specs.Places.{place_in}
 use Rattle.lp_model.specs.GroupsView.{GroupView}
 use Rattle.lp_model.specs.Refusals.{library_refusal}

@@ -4,7 +4,7 @@ use Rattle.std.specs.Prelude.{if◌then◌else◌, nat_le, nat_lt, IsTrue, map, 
 use Rattle.std.proofs.lemmas.List.{append-nil, length-map, length-drop, length-take-le, take-append-drop}
 use Rattle.std.proofs.lemmas.Bool.{true≢false, ltb-true, ltb-false, le-leb}
 use Rattle.std.proofs.lemmas.List.Folds.{list_all-append}
-use Rattle.lp_place.specs.Machines.{steps, steps-append, Stops}
+use Rattle.lp_spec_place.specs.Machines.{steps, steps-append, Stops}
 use Rattle.lp_text.specs.Texts.{with_text, place_of, text_at, Grown, Grown-with_text, Grown-refl, Grown-trans, Grown-KeepsNumbers, place_of-Some, has_text, is_some-place_of, place_of-push}
 use Rattle.lp_model.specs.GroupsView.{group_view}
 use Rattle.lp_liberty.specs.declared.mark.Mark.TheVariants as marks

@@ -1,7 +1,7 @@
 -- What a Liberty text denotes, and where it is refused (own rule).
 use Rattle.std.specs.Prelude.{◌≡◌, ℕ, zero, suc, ◌<◌, ◌≤◌, Bool, false, nat_le, IsTrue, List, [], ◌∷◌, ◌++◌, length, map, take, drop, None}
 use Rattle.std.specs.List.{list_all}
-use Rattle.lp_place.specs.Leaving.{Leaves}
+use Rattle.lp_spec_place.specs.Leaving.{Leaves}
 use Rattle.lp_text.specs.Places.{place_in}
 use Rattle.lp_model.specs.declared.groups.Groups.{Groups}
 use Rattle.lp_model.specs.GroupsView.{GroupView, groups_view}

@@ -4,33 +4,33 @@ use Rattle.std.specs.Prelude.{bytes_eq, Err}
 use Rattle.std.specs.List.{list_all, flat_map}
 use Rattle.std.proofs.lemmas.List.{append-nil}
 use Rattle.std.proofs.lemmas.Bool.{not-true}
-use Rattle.lp_settling.specs.Settling.{IsOrder, Covers}
+use Rattle.lp_spec_settling.specs.Settling.{IsOrder, Covers}
 use Rattle.lp_model.specs.Agreement.{numbers_below}
 use Rattle.lp_model.specs.declared.library.Cell.{Cell}
 use Rattle.lp_model.specs.declared.netlist.Module.{Module}
 use Rattle.lp_model.specs.declared.netlist.Netlist.{Netlist}
 use Rattle.lp_model.specs.NetlistView.{ModuleView, module_view, module_numbers, netlist_view, netlist_numbers}
 use Rattle.lp_model.specs.LibraryView.{CellView, cell_view}
-use Rattle.lp_design.specs.Keys.{Name}
-use Rattle.lp_design.specs.Settled.{Event, Key}
-use Rattle.lp_design.specs.Registers.{States}
-use Rattle.lp_design.specs.Reads.{keys, reads}
-use Rattle.lp_pins.specs.Supplied.{is_supplied}
-use Rattle.lp_plain.specs.Alike.{RunsAlike}
-use Rattle.lp_flat.specs.Designs.{Flat, design_of}
-use Rattle.lp_flat.specs.Netlists.{powered, netlist_of, origin_of}
-use Rattle.lp_flat.specs.Tests.{is_flat}
+use Rattle.lp_spec_design.specs.Keys.{Name}
+use Rattle.lp_spec_design.specs.Settled.{Event, Key}
+use Rattle.lp_spec_design.specs.Registers.{States}
+use Rattle.lp_spec_design.specs.Reads.{keys, reads}
+use Rattle.lp_spec_pins.specs.Supplied.{is_supplied}
+use Rattle.lp_spec_plain.specs.Alike.{RunsAlike}
+use Rattle.lp_spec_plain_module.specs.Designs.{Flat, design_of}
+use Rattle.lp_spec_plain_module.specs.Netlists.{powered, netlist_of, origin_of}
+use Rattle.lp_spec_plain_module.specs.Tests.{is_flat}
 use Rattle.lp_verilog.specs.Reads.{Reads}
 use Rattle.lp_verilog_tokens.specs.Lexical.{is_visible}
 use Rattle.lp_vwrite.specs.Layout.{layout}
 use Rattle.lp_vwrite.specs.WellFormed.{IsWellFormed, HasTable}
-use Rattle.lp_single.specs.Single.{is_single_module}
-use Rattle.lp_single.specs.Fits.{are_read, is_fit, are_plain}
-use Rattle.lp_single.specs.Flats.{flat_of}
-use Rattle.lp_small.specs.declared.intent.Intent.{Intent}
-use Rattle.lp_insertion.specs.Inputs.{Inputs, Accepts}
-use Rattle.lp_insertion.specs.Faults.{FirstFault}
-use Rattle.lp_insertion.specs.Promise.{IsWritten, HeadlineHolds, HasDesign, report_text}
+use Rattle.lp_spec_plain_netlist.specs.Single.{is_single_module}
+use Rattle.lp_spec_plain_netlist.specs.Fits.{are_read, is_fit, are_plain}
+use Rattle.lp_spec_plain_netlist.specs.Flats.{flat_of}
+use Rattle.lp_plain_upf.specs.declared.plain.Intent.{Intent}
+use Rattle.lp_spec_insertion.specs.Inputs.{Inputs, Accepts}
+use Rattle.lp_spec_insertion.specs.Faults.{FirstFault}
+use Rattle.lp_spec_insertion.specs.Promise.{IsWritten, HeadlineHolds, HasDesign, report_text}
 use Rattle.lp_accept.specs.declared.accepted.Accepted.{Accepted}
 use Rattle.lp_accept.specs.declared.stop.Stop.{Stop}
 use Rattle.lp_accept.specs.declared.stop.Stop.TheVariants as stops

@@ -5,9 +5,9 @@ use Rattle.std.specs.Prelude.{nat_lt}
 use Rattle.std.proofs.lemmas.Bool.{both_ways, ltb-false}
 use Rattle.std.proofs.lemmas.List.{length-map}
 use Rattle.lp_text.specs.Shelf.{Files, Faults}
-use Rattle.lp_small.specs.Names.{Name}
-use Rattle.lp_insertion.specs.Faults.{FirstFault}
-use Rattle.lp_insertion.specs.Promise.{IsWritten, HeadlineHolds}
+use Rattle.lp_plain_upf.specs.Names.{Name}
+use Rattle.lp_spec_insertion.specs.Faults.{FirstFault}
+use Rattle.lp_spec_insertion.specs.Promise.{IsWritten, HeadlineHolds}
 use Rattle.lp_top.specs.declared.outcome.Outcome.{Outcome}
 use Rattle.lp_top.specs.declared.outcome.Outcome.TheVariants.{Done, Refused, TooLong, Usage, ReadFault, WriteFault, NoMemory}
 use Rattle.lp_top.specs.Reading.{count_more, HoldsAll}

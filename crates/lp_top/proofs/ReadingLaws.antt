@@ -6,7 +6,7 @@ use Rattle.std.proofs.lemmas.Bool.{false≢true}
 use Rattle.std.specs.List.{AllByRecursion}
 use Rattle.std.proofs.lemmas.List.{map-append, take_more, get_or-map, length-map}
 use Rattle.lp_text.specs.Shelf.{Files, count_up, content}
-use Rattle.lp_small.specs.Names.{Name}
+use Rattle.lp_plain_upf.specs.Names.{Name}
 use Rattle.lp_top.specs.Reading.{count_more, IsShort, HoldsAll}
 
 pub count_more-step : (i : ℕ) (old : Option ℕ) → option_map count_up (option_map (count_more i) old) ≡ option_map (count_more (i + 1)) old

@@ -11,11 +11,11 @@ use Rattle.lp_text.specs.declared.shelf.ShelfFault.{ShelfFault}
 use Rattle.lp_text.specs.Shelf.{Files, Faults, LAST, count_up, Rises, content, with_said, SayHolds}
 use Rattle.lp_model.specs.NetlistView.{ModuleView}
 use Rattle.lp_model.specs.LibraryView.{CellView}
-use Rattle.lp_small.specs.declared.intent.Intent.{Intent}
-use Rattle.lp_small.specs.Names.{Name}
-use Rattle.lp_insertion.specs.Inputs.{Inputs, Accepts}
-use Rattle.lp_insertion.specs.Faults.{FirstFault}
-use Rattle.lp_insertion.specs.Promise.{HeadlineHolds}
+use Rattle.lp_plain_upf.specs.declared.plain.Intent.{Intent}
+use Rattle.lp_plain_upf.specs.Names.{Name}
+use Rattle.lp_spec_insertion.specs.Inputs.{Inputs, Accepts}
+use Rattle.lp_spec_insertion.specs.Faults.{FirstFault}
+use Rattle.lp_spec_insertion.specs.Promise.{HeadlineHolds}
 use Rattle.lp_top.specs.declared.outcome.Outcome.{Outcome}
 use Rattle.lp_top.specs.declared.outcome.Outcome.TheVariants.{Done, Refused, TooLong, Usage, ReadFault, WriteFault, NoMemory}
 use Rattle.lp_top.specs.Reading.{count_more}

@@ -3,7 +3,7 @@ use Rattle.std.proofs.Common.{◌≡◌, true, false, cond, List, [], ◌∷◌,
 use Rattle.std.specs.Prelude.{codes, bytes_eq}
 use Rattle.std.proofs.lemmas.Slice.Eq.{bytes_eq-Decides}
 use Rattle.lp_token.specs.Tokens.{is_filled}
-use Rattle.lp_small.specs.Names.{Name}
+use Rattle.lp_plain_upf.specs.Names.{Name}
 use Rattle.lp_top.specs.Words.{CommandFiles, IsCommand, command_words, word_is, option_at, command_of, ◌>>=◌}
 
 bind_some : {A B : Type 0} (o : Option A) (f : A → Option B) (y : B) → (o >>= f) ≡ Some y → (x : A) × ((o ≡ Some x) × (f x ≡ Some y))

@@ -1,7 +1,7 @@
 -- The inputs of an insertion, and when it is refused.
 use Rattle.std.specs.Prelude.{◌≡◌, ℕ, List, Result, Ok, Err}
-use Rattle.lp_insertion.specs.Inputs.{Inputs}
-use Rattle.lp_insertion.specs.Faults.{FirstFault}
+use Rattle.lp_spec_insertion.specs.Inputs.{Inputs}
+use Rattle.lp_spec_insertion.specs.Faults.{FirstFault}
 use Rattle.lp_accept.specs.declared.stop.Stop.{Stop}
 use Rattle.lp_accept.specs.declared.stop.Stop.TheVariants as stops
 use Rattle.lp_top.specs.declared.design.Written.{Written}

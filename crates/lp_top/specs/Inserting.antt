@@ -4,8 +4,8 @@ use Rattle.std.specs.Option.{option_map}
 use Rattle.lp_text.specs.Shelf.{Files, with_file}
 use Rattle.lp_text.specs.declared.shelf.ShelfFault.{ShelfFault}
 use Rattle.lp_text.specs.declared.shelf.ShelfFault.TheVariants as causes
-use Rattle.lp_small.specs.Names.{Name}
-use Rattle.lp_insertion.specs.Inputs.{Inputs}
+use Rattle.lp_plain_upf.specs.Names.{Name}
+use Rattle.lp_spec_insertion.specs.Inputs.{Inputs}
 use Rattle.lp_top.specs.declared.reading.ReadStop.{ReadStop}
 use Rattle.lp_top.specs.declared.outcome.Outcome.{Outcome}
 use Rattle.lp_top.specs.declared.outcome.Outcome.TheVariants.{Done, TooLong, Usage, ReadFault, WriteFault, NoMemory}

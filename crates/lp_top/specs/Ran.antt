@@ -2,9 +2,9 @@
 use Rattle.std.specs.Prelude.{◌≡◌, ℕ, ◌+◌, ◌≤◌, ◌<◌, ◌⊎◌, false, List, [], length, take, IsTrue, Option, Some, None, nat_le, slice_index_or, if◌then◌else◌}
 use Rattle.std.specs.Option.{option_map, IfSome}
 use Rattle.lp_text.specs.Shelf.{Files, Faults, LAST, count_up, Rises, content, with_file, with_said, ReadRises, WriteRises, LongRises}
-use Rattle.lp_small.specs.Names.{Name}
-use Rattle.lp_insertion.specs.Faults.{FirstFault}
-use Rattle.lp_insertion.specs.Promise.{IsWritten, HeadlineHolds}
+use Rattle.lp_plain_upf.specs.Names.{Name}
+use Rattle.lp_spec_insertion.specs.Faults.{FirstFault}
+use Rattle.lp_spec_insertion.specs.Promise.{IsWritten, HeadlineHolds}
 use Rattle.lp_top.specs.declared.outcome.UsageFault.TheVariants.{Form, Files as Clash}
 use Rattle.lp_top.specs.declared.outcome.Outcome.{Outcome}
 use Rattle.lp_top.specs.declared.outcome.Outcome.TheVariants.{Done, Refused, TooLong, Usage, ReadFault, WriteFault, NoMemory}

@@ -5,7 +5,7 @@ use Rattle.std.specs.List.{AllByRecursion}
 use Rattle.lp_text.specs.Shelf.{Files, Faults, count_up, content, ReadRises, LongRises}
 use Rattle.lp_text.specs.declared.shelf.ShelfFault.{ShelfFault}
 use Rattle.lp_text.specs.declared.shelf.ShelfFault.TheVariants as causes
-use Rattle.lp_small.specs.Names.{Name}
+use Rattle.lp_plain_upf.specs.Names.{Name}
 use Rattle.lp_top.specs.declared.reading.ReadStop.{ReadStop}
 
 -- a count after some more calls

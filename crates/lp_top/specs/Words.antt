@@ -2,8 +2,8 @@
 use Rattle.std.specs.Prelude.{◌≡◌, Bool, ◌||◌, nat_lt, List, [], ◌∷◌, length, codes, IsTrue, bytes_eq, map, Option, Some, None, if◌then◌else◌}
 use Rattle.lp_text.specs.Shelf.{Files, content}
 use Rattle.lp_token.specs.Tokens.{is_filled}
-use Rattle.lp_small.specs.Names.{Name, has_name}
-use Rattle.lp_insertion.specs.Inputs.{Inputs}
+use Rattle.lp_plain_upf.specs.Names.{Name, has_name}
+use Rattle.lp_spec_insertion.specs.Inputs.{Inputs}
 use Rattle.lp_top.specs.declared.words.Command.{Command}
 
 -- the names of a command's files

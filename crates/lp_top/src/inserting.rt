@@ -1,5 +1,5 @@
 ghost use Rattle.std.specs.Prelude.{◌≡◌, ◌≤◌, length, IfOk, false};
-ghost use Rattle.lp_insertion.specs.Promise.{IsWritten, HeadlineHolds};
+ghost use Rattle.lp_spec_insertion.specs.Promise.{IsWritten, HeadlineHolds};
 ghost use Rattle.lp_top.specs.Words.{files_of, clashes};
 ghost use Rattle.lp_top.specs.Ran.{file_number as number_of, ByFiles, ByCause, ByMissed};
 ghost use Rattle.lp_top.specs.Inserting.{inputs_read, end_of, StoresBoth, MissesWrite, IsNoUsage};

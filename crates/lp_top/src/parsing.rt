@@ -1,6 +1,6 @@
 ghost use Rattle.std.specs.Prelude.{◌≡◌, IfOk, map};
 ghost use Rattle.std.specs.Option.{option_map};
-ghost use Rattle.lp_small.specs.Names.{has_name};
+ghost use Rattle.lp_plain_upf.specs.Names.{has_name};
 ghost use Rattle.lp_top.specs.Words.{word_is, option_at, command_of, files_of, input_files, clashes};
 
 use crate::words::Command;

@@ -7,7 +7,7 @@ ghost use Rattle.lp_top.specs.Words.{CommandFiles, IsCommand, clashes};
 use crate::inserting::attempt;
 use crate::outcome::{Outcome, UsageFault};
 use crate::parsing::{command, has_clash};
-use lp_insertion::{no_fault, one_fault};
+use lp_spec_insertion::{no_fault, one_fault};
 use lp_text::{NoMemory, Shelf, ShelfFault, Word};
 use std::alloc::Global;
 

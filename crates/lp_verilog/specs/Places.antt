@@ -2,7 +2,7 @@
 use Rattle.std.specs.Prelude.{◌≡◌, ◌≤◌, ◌⊎◌, ℕ, ◌+◌, ◌-◌, Bool, true, false, not, ◌&&◌, ◌||◌, ◌==◌, List, [], ◌∷◌, ◌++◌, length, Option, Some, None, is_some, max}
 use Rattle.std.specs.List.{list_any}
 use Rattle.lp_text.specs.Texts.{distinct}
-use Rattle.lp_place.specs.Leaving.{Leaves}
+use Rattle.lp_spec_place.specs.Leaving.{Leaves}
 use Rattle.lp_model.specs.declared.netlist.BitRange.{BitRange}
 use Rattle.lp_model.specs.NetlistView.{ModuleView}
 use Rattle.lp_verilog_tokens.specs.Cutting.{Piece, piece_of}

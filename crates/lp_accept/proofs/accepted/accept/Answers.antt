@@ -5,7 +5,7 @@ use Rattle.lp_model.specs.declared.netlist.Module.{Module}
 use Rattle.lp_model.specs.Agreement.{numbers_below}
 use Rattle.lp_model.specs.LibraryView.{cell_view, cell_numbers, library_view}
 use Rattle.lp_model.specs.NetlistView.{netlist_view, module_view, module_numbers}
-use Rattle.lp_single.specs.Fits.{are_read}
+use Rattle.lp_spec_plain_netlist.specs.Fits.{are_read}
 use Rattle.lp_accept.specs.Inputs.{inputs_of}
 use Rattle.lp_accept.specs.Stages.{OrStop}
 use Rattle.lp_accept.specs.Read.{IsModules}

@@ -2,10 +2,10 @@ use Rattle.std.proofs.Common.{◌≡◌, ℕ, true, length, map, inr, sym, ◌�
 use Rattle.std.specs.Bool.{OnTrue}
 use Rattle.lp_model.specs.LibraryView.{cell_view}
 use Rattle.lp_model.specs.NetlistView.{module_view}
-use Rattle.lp_design.specs.Keys.{Name}
-use Rattle.lp_single.specs.Single.{is_single_module}
-use Rattle.lp_single.specs.Fits.{are_read, is_fit}
-use Rattle.lp_single.specs.Flats.{HasLoop, flat_of}
+use Rattle.lp_spec_design.specs.Keys.{Name}
+use Rattle.lp_spec_plain_netlist.specs.Single.{is_single_module}
+use Rattle.lp_spec_plain_netlist.specs.Fits.{are_read, is_fit}
+use Rattle.lp_spec_plain_netlist.specs.Flats.{HasLoop, flat_of}
 use Rattle.lp_accept.specs.Judged.{Sound}
 use Rattle.lp_accept.proofs.Judging.{read-few, unsound}
 use Rattle.lp_accept.proofs.Accepting.{names-below}

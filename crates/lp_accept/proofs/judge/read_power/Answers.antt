@@ -1,4 +1,4 @@
-use Rattle.lp_small.specs.Upf.{IsIntent}
+use Rattle.lp_plain_upf.specs.Upf.{IsIntent}
 use Rattle.lp_accept.proofs.Judging.{no-intent}
 use Rattle.lp_accept.proofs.judge.read_power.Goals as goal
 

@@ -1,6 +1,6 @@
 use Rattle.std.proofs.Common.{◌≡◌, ◌<◌, ℕ, ◌+◌, ◌++◌, ◌∷◌, [], length, take, sym, ap, ◌∙◌, subst, arith, length-append}
 use Rattle.std.specs.Prelude.{Err}
-use Rattle.lp_insertion.specs.Faults.{IsOff}
+use Rattle.lp_spec_insertion.specs.Faults.{IsOff}
 use Rattle.lp_accept.specs.Stages.{OrStop}
 use Rattle.lp_accept.specs.Read.{IsGroups, AreGroups}
 use Rattle.lp_accept.proofs.Readings.{no-groups, groups-more, exit-off, texts-more, take-all}

@@ -4,7 +4,7 @@ use Rattle.std.proofs.lemmas.Bool.{not-true}
 use Rattle.lp_text.specs.Texts.{text_at}
 use Rattle.lp_model.specs.declared.netlist.Instance.{Instance}
 use Rattle.lp_model.specs.LibraryView.{cell_view}
-use Rattle.lp_single.specs.Fits.{cell_named, is_plain_target}
+use Rattle.lp_spec_plain_netlist.specs.Fits.{cell_named, is_plain_target}
 use Rattle.lp_accept.proofs.Readings.{take-all}
 use Rattle.lp_accept.proofs.Plains.{target-below, all-more, all-false}
 use Rattle.lp_accept.proofs.plain.all_plain.Goals as goal

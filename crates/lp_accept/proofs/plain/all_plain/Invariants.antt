@@ -2,7 +2,7 @@ use Rattle.std.proofs.Common.{◌≡◌, true, map, take}
 use Rattle.std.specs.List.{list_all}
 use Rattle.lp_text.specs.Texts.{text_at}
 use Rattle.lp_model.specs.LibraryView.{cell_view}
-use Rattle.lp_single.specs.Fits.{cell_named, is_plain_target}
+use Rattle.lp_spec_plain_netlist.specs.Fits.{cell_named, is_plain_target}
 use Rattle.lp_accept.proofs.plain.all_plain.Given as goal
 
 abbrev pub invariant-loop-instance : goal.invariant-loop-instance

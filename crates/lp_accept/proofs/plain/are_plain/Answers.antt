@@ -5,7 +5,7 @@ use Rattle.lp_text.specs.Texts.{text_at}
 use Rattle.lp_model.specs.declared.netlist.Instance.{Instance}
 use Rattle.lp_model.specs.NetlistView.{InstanceView, instance_view}
 use Rattle.lp_model.specs.LibraryView.{cell_view}
-use Rattle.lp_single.specs.Fits.{cell_named, is_plain_target}
+use Rattle.lp_spec_plain_netlist.specs.Fits.{cell_named, is_plain_target}
 use Rattle.lp_accept.proofs.plain.are_plain.Goals as goal
 
 pub returns : goal.returns

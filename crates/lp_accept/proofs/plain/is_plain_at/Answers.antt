@@ -3,7 +3,7 @@ use Rattle.std.proofs.lemmas.List.{length-map}
 use Rattle.std.specs.Prelude.{slice_index_or}
 use Rattle.lp_text.specs.Texts.{text_at}
 use Rattle.lp_model.specs.LibraryView.{cell_view}
-use Rattle.lp_plain.specs.Cells.{is_plain_cell}
+use Rattle.lp_spec_plain.specs.Cells.{is_plain_cell}
 use Rattle.lp_accept.proofs.Plains.{plain-at, flag_at, place-in}
 use Rattle.lp_accept.proofs.plain.is_plain_at.Goals as goal
 

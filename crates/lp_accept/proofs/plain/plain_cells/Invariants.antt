@@ -1,7 +1,7 @@
 use Rattle.std.proofs.Common.{◌≡◌, ◌++◌, drop}
 use Rattle.std.specs.Prelude.{map}
 use Rattle.lp_model.specs.LibraryView.{cell_view}
-use Rattle.lp_plain.specs.Cells.{is_plain_cell}
+use Rattle.lp_spec_plain.specs.Cells.{is_plain_cell}
 use Rattle.lp_accept.proofs.plain.plain_cells.Given as goal
 
 abbrev pub invariant-loop-cell : goal.invariant-loop-cell

@@ -1,4 +1,4 @@
-use Rattle.lp_place.specs.Leaving as leaving
+use Rattle.lp_spec_place.specs.Leaving as leaving
 use Rattle.lp_expr.specs.Grammar.{IsExpression}
 use Rattle.lp_expr.proofs.laws.one_place.Goals as goal
 

@@ -2,7 +2,7 @@ use Rattle.std.proofs.Common.{◌≡◌, ℕ, ◌≤◌, [], ◌∷◌, ◌++◌
 use Rattle.std.proofs.lemmas.Result.{IfOk-weaker}
 use Rattle.lp_model.specs.declared.netlist.Netlist.{Netlist}
 use Rattle.lp_model.specs.NetlistView.{netlist_view}
-use Rattle.lp_flat.specs.Netlists.{powered}
+use Rattle.lp_spec_plain_module.specs.Netlists.{powered}
 use Rattle.lp_vwrite.specs.Layout.{layout}
 use Rattle.lp_vwrite.specs.WellFormed.{HasTable}
 use Rattle.lp_accept.specs.Judged.{flat_by}

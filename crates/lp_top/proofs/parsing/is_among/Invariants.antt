@@ -1,5 +1,5 @@
 use Rattle.std.proofs.Common.{◌≡◌, drop}
-use Rattle.lp_small.specs.Names.{has_name}
+use Rattle.lp_plain_upf.specs.Names.{has_name}
 use Rattle.lp_top.proofs.parsing.is_among.Given as goal
 
 abbrev pub invariant-loop-other : goal.invariant-loop-other

@@ -1,6 +1,0 @@
-mod Computed
-pub mod DesignLaws
-pub mod Looks
-mod Retained
-pub mod Runs
-pub mod Corrupted

@@ -1,7 +1,0 @@
-pub mod Domains
-pub mod Modules
-pub mod Readings
-pub mod StateTable
-pub mod Strategies
-pub mod Supplies
-pub mod Wires

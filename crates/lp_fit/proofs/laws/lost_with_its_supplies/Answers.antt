@@ -1,5 +1,0 @@
-use Rattle.lp_fit.proofs.Equal.{power_down_everywhere}
-use Rattle.lp_fit.proofs.laws.lost_with_its_supplies.Goals as goal
-
-pub returns : goal.returns
-returns c = power_down_everywhere

@@ -1,5 +1,0 @@
-use Rattle.lp_fit.proofs.Chosen.{none_fits}
-use Rattle.lp_fit.proofs.laws.no_choice_no_cell.Goals as goal
-
-pub returns : goal.returns
-returns c = none_fits

@@ -1,6 +1,0 @@
-use Rattle.std.proofs.Common.{◌≡◌, ◌++◌, take}
-use Rattle.lp_fits.specs.Numbered.{driven}
-use Rattle.lp_fits.proofs.nets.add_driven.Given as goal
-
-abbrev pub invariant-loop-instance : goal.invariant-loop-instance
-invariant-loop-instance l = l.nets.items ≡ l.fn.nets.items ++ driven l.index (take l.instance-index l.instances)

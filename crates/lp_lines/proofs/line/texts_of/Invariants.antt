@@ -1,7 +1,0 @@
-use Rattle.std.proofs.Common.{◌≡◌, ◌++◌, drop, map}
-use Rattle.lp_lines.specs.Lines.{item_text}
-use Rattle.lp_lines.proofs.line.texts_of.Given as goal
-
--- the texts so far, and those of the items to come
-abbrev pub invariant-loop-item : goal.invariant-loop-item
-invariant-loop-item l = l.texts.items ++ map (item_text l.known) (drop l.item-index l.items) ≡ map (item_text l.known) l.items

@@ -1,5 +1,0 @@
-use Rattle.lp_network.proofs.FirstRow.{one-first_row}
-use Rattle.lp_network.proofs.laws.one_first_row.Goals as goal
-
-pub returns : goal.returns
-returns c = one-first_row

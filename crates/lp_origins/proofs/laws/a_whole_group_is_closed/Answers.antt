@@ -1,5 +1,0 @@
-use Rattle.lp_origins.proofs.WholeGroups.{whole-closed}
-use Rattle.lp_origins.proofs.laws.a_whole_group_is_closed.Goals as goal
-
-pub returns : goal.returns
-returns c = whole-closed

@@ -1,5 +1,0 @@
-use Rattle.lp_small_upf.proofs.Reading.{one_intent}
-use Rattle.lp_small_upf.proofs.intent.one_intent.Goals as goal
-
-pub returns : goal.returns
-returns c = one_intent

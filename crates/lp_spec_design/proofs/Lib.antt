@@ -1,0 +1,7 @@
+mod Computed
+pub mod DesignLaws
+pub mod Looks
+mod Retained
+pub mod Runs
+pub mod Corrupted
+pub mod Same

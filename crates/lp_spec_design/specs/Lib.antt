@@ -1,0 +1,12 @@
+pub mod Chains
+pub mod Domains
+pub mod Graph
+pub mod Intents
+pub mod Keys
+pub mod Netlists
+pub mod Samples
+pub mod Settled
+pub mod Winners
+pub mod Reads
+pub mod Registers
+pub mod Sees

@@ -1,0 +1,7 @@
+pub mod Combinations
+mod Computed
+mod ComputedNetlists
+mod ComputedTable
+mod ComputedWires
+pub mod Loops
+mod SupplyLines
