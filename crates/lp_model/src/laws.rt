@@ -5,12 +5,15 @@ ghost use Rattle.lp_model.specs.Agreement.{numbers_below};
 ghost use Rattle.lp_model.specs.LibraryView.{library_view, library_numbers};
 ghost use Rattle.lp_model.specs.NetlistView.{netlist_view, netlist_numbers};
 ghost use Rattle.lp_model.specs.GroupsView.{groups_view, groups_numbers};
+ghost use Rattle.lp_model.specs.Slots.{set_in, strategy_in};
 ghost use Rattle.lp_model.specs.CommandsView.{words_view, words_numbers, commands_view, commands_numbers};
 ghost use Rattle.lp_model.specs.declared.groups.Groups.{Groups};
 ghost use Rattle.lp_model.specs.declared.library.Library.{Library};
 ghost use Rattle.lp_model.specs.declared.netlist.Netlist.{Netlist};
 ghost use Rattle.lp_model.specs.declared.upf.WordList.{WordList};
 ghost use Rattle.lp_model.specs.declared.upf.Commands.{Commands};
+
+use crate::slot::{SetSlot, StrategySlot};
 
 /// A library says the same when the table of its names has grown.
 pub fn grown_names_keep_libraries()
@@ -31,4 +34,10 @@ pub fn grown_names_keep_groups()
 pub fn grown_names_keep_commands()
     ensures words { (old new : List (List ℕ)) (w : WordList) → Grown old new → IsTrue (numbers_below (length old) (words_numbers w)) → words_view new w ≡ words_view old w }
     ensures commands { (old new : List (List ℕ)) (c : Commands) → Grown old new → IsTrue (numbers_below (length old) (commands_numbers c)) → commands_view new c ≡ commands_view old c }
+{}
+
+/// The empty slots name nothing.
+pub fn empty_slots_name_nothing()
+    ensures sets { set_in SetSlot.NONE ≡ None }
+    ensures strategies { strategy_in StrategySlot.NONE ≡ None }
 {}
