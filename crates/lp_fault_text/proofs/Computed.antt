@@ -1,6 +1,6 @@
 -- The lines of faults, computed on a small design: the top `soc` has the block `u` and the cell `b`, the block has `v+`, which has the register `r`. The design is its own powered netlist.
 use Rattle.std.proofs.Common.{◌≡◌, List, true, false, [], ◌∷◌, Some, None, refl}
-use Rattle.std.specs.Prelude.{ℕ, Bool, codes, map}
+use Rattle.std.specs.Prelude.{ℕ, Bool, ◌++◌, codes, decimal, map}
 use Rattle.lp_text.specs.declared.names.NameId.{NameId}
 use Rattle.lp_text.specs.declared.place.Place.{Place}
 use Rattle.lp_model.specs.declared.fault.check.CheckFault.TheVariants as check
@@ -53,6 +53,7 @@ use Rattle.lp_model.specs.declared.library.PgPin.{PgPin}
 use Rattle.lp_model.specs.declared.library.Pin.{Pin}
 use Rattle.lp_model.specs.declared.netlist.Module.{Module}
 use Rattle.lp_model.specs.declared.netlist.Port.{Port}
+use Rattle.lp_model.specs.FaultLines.{line_text}
 use Rattle.lp_fault_text.specs.Lines.{line_of}
 use Rattle.lp_fault_text.specs.Paths.{path}
 use Rattle.lp_fault_text.specs.Views.{GraphView, IntentView, KnownView}
@@ -86,6 +87,13 @@ at line column = record { line = line; column = column }
 
 abbrev made_in : ℕ → ℕ → ScopedName
 made_in scope n = record { scope = inst scope; name = name n }
+
+-- numbers stay as their decimal texts
+abbrev spot : ℕ → ℕ → List ℕ
+spot line column = decimal line ++ (codes ":" ++ decimal column)
+
+abbrev bit : List ℕ → ℕ → List ℕ
+bit n index = n ++ (codes "[" ++ (decimal index ++ codes "]"))
 
 -- the names of all parts
 abbrev texts : List (List ℕ)
@@ -132,10 +140,10 @@ module _ (s : Strategy) (d : Domain) (w : PowerSwitch) (p : SupplyPort) (g : Sup
 
   libraries_have_lines :
       map (line_of known)
-        (faults.Design (designs.Library (libraries.Syntax 10 (at 1 14)))
-        ∷ faults.Design (designs.Library (libraries.DuplicateCell (name 3)))
-        ∷ [])
-      ≡ codes "lpinsert: F01 Syntax 10 1:14"
+      (faults.Design (designs.Library (libraries.Syntax 10 (at 1 14)))
+      ∷ faults.Design (designs.Library (libraries.DuplicateCell (name 3)))
+      ∷ [])
+      ≡ line_text (codes "F01 Syntax") (decimal 10 ∷ spot 1 14 ∷ [])
       ∷ codes "lpinsert: F03 DuplicateCell b"
       ∷ []
   unfolding path
@@ -143,40 +151,40 @@ module _ (s : Strategy) (d : Domain) (w : PowerSwitch) (p : SupplyPort) (g : Sup
 
   netlists_have_lines :
       map (line_of known)
-        (faults.Design (designs.Netlist (netlists.Unsupported (at 1 41) (name 7)))
-        ∷ faults.Design (designs.Netlist (netlists.Limit limits.Bytes))
-        ∷ faults.Design (designs.Netlist (netlists.TwoDrivers (node 3)))
-        ∷ faults.Design (designs.Netlist (netlists.WireLoop (node 0)))
-        ∷ faults.Powered (netlists.TwoDrivers (node 3))
-        ∷ faults.Powered (netlists.Syntax (at 2 15))
-        ∷ [])
-      ≡ codes "lpinsert: F11 Unsupported 1:41 w"
-      ∷ codes "lpinsert: F22 Limit 1"
-      ∷ codes "lpinsert: F16 TwoDrivers u/v+/d[0]"
+      (faults.Design (designs.Netlist (netlists.Unsupported (at 1 41) (name 7)))
+      ∷ faults.Design (designs.Netlist (netlists.Limit limits.Bytes))
+      ∷ faults.Design (designs.Netlist (netlists.TwoDrivers (node 3)))
+      ∷ faults.Design (designs.Netlist (netlists.WireLoop (node 0)))
+      ∷ faults.Powered (netlists.TwoDrivers (node 3))
+      ∷ faults.Powered (netlists.Syntax (at 2 15))
+      ∷ [])
+      ≡ line_text (codes "F11 Unsupported") (spot 1 41 ∷ codes "w" ∷ [])
+      ∷ line_text (codes "F22 Limit") (decimal 1 ∷ [])
+      ∷ line_text (codes "F16 TwoDrivers") (bit (codes "u/v+/d") 0 ∷ [])
       ∷ codes "lpinsert: F23 WireLoop q"
-      ∷ codes "lpinsert: powered F16 TwoDrivers u/v+/d[0]"
-      ∷ codes "lpinsert: powered F10 Syntax 2:15"
+      ∷ line_text (codes "powered F16 TwoDrivers") (bit (codes "u/v+/d") 0 ∷ [])
+      ∷ line_text (codes "powered F10 Syntax") (spot 2 15 ∷ [])
       ∷ []
   unfolding path
   netlists_have_lines = refl
 
   other_texts_have_lines :
       map (line_of known)
-        (faults.Loaded 2 (intents.ClampRefused (at 1 62))
-        ∷ faults.NotYet 4
-        ∷ [])
-      ≡ codes "lpinsert: loaded 2 F34 ClampRefused 1:62"
-      ∷ codes "lpinsert: F99 NotYet 4"
+      (faults.Loaded 2 (intents.ClampRefused (at 1 62))
+      ∷ faults.NotYet 4
+      ∷ [])
+      ≡ line_text ((codes "loaded " ++ (decimal 2 ++ codes " ")) ++ codes "F34 ClampRefused") (spot 1 62 ∷ [])
+      ∷ line_text (codes "F99 NotYet") (decimal 4 ∷ [])
       ∷ []
   unfolding path
   other_texts_have_lines = refl
 
   pins_have_lines :
       map (line_of known)
-        (faults.Pins (pins.PinUnsupplied (leaf 1) 0)
-        ∷ faults.Pins (pins.Loop (node 4))
-        ∷ faults.Pins (pins.NoOrigin (origin 1))
-        ∷ [])
+      (faults.Pins (pins.PinUnsupplied (leaf 1) 0)
+      ∷ faults.Pins (pins.Loop (node 4))
+      ∷ faults.Pins (pins.NoOrigin (origin 1))
+      ∷ [])
       ≡ codes "lpinsert: P1 PinUnsupplied u/v+/r VDD"
       ∷ codes "lpinsert: P2 Loop u/w"
       ∷ codes "lpinsert: P3 NoOrigin u/SW"
@@ -186,18 +194,18 @@ module _ (s : Strategy) (d : Domain) (w : PowerSwitch) (p : SupplyPort) (g : Sup
 
   supplies_have_scopes :
       map (line_of known)
-        (faults.Design (designs.Supply (supplies.NoDomain (name 0)))
-        ∷ faults.Design (designs.Supply (supplies.NoPrimary 1))
-        ∷ faults.Design (designs.Supply (supplies.Undriven (undriven.Set (set 1))))
-        ∷ faults.Design (designs.Supply (supplies.Undriven (undriven.Port (made_in 1 15))))
-        ∷ faults.Design (designs.Supply (supplies.TwoSources (made_in 2 15)))
-        ∷ faults.Design (designs.Supply (supplies.SupplyLoop 0))
-        ∷ faults.Design (designs.Supply (supplies.NoStates (origin 0)))
-        ∷ faults.Design (designs.Supply (supplies.GroundLevel (origin 2)))
-        ∷ faults.Design (designs.Supply (supplies.StateMismatch (rows.Row 2)))
-        ∷ faults.Design (designs.Supply (supplies.StateMismatch (rows.Origin (origin 1))))
-        ∷ faults.Design (designs.Supply (supplies.GroundMismatch (set 0) (set 1)))
-        ∷ [])
+      (faults.Design (designs.Supply (supplies.NoDomain (name 0)))
+      ∷ faults.Design (designs.Supply (supplies.NoPrimary 1))
+      ∷ faults.Design (designs.Supply (supplies.Undriven (undriven.Set (set 1))))
+      ∷ faults.Design (designs.Supply (supplies.Undriven (undriven.Port (made_in 1 15))))
+      ∷ faults.Design (designs.Supply (supplies.TwoSources (made_in 2 15)))
+      ∷ faults.Design (designs.Supply (supplies.SupplyLoop 0))
+      ∷ faults.Design (designs.Supply (supplies.NoStates (origin 0)))
+      ∷ faults.Design (designs.Supply (supplies.GroundLevel (origin 2)))
+      ∷ faults.Design (designs.Supply (supplies.StateMismatch (rows.Row 2)))
+      ∷ faults.Design (designs.Supply (supplies.StateMismatch (rows.Origin (origin 1))))
+      ∷ faults.Design (designs.Supply (supplies.GroundMismatch (set 0) (set 1)))
+      ∷ [])
       ≡ codes "lpinsert: F35 NoDomain soc"
       ∷ codes "lpinsert: F36 NoPrimary u/PC"
       ∷ codes "lpinsert: F37 Undriven u/PC.primary"
@@ -206,7 +214,7 @@ module _ (s : Strategy) (d : Domain) (w : PowerSwitch) (p : SupplyPort) (g : Sup
       ∷ codes "lpinsert: F39 SupplyLoop u/SW"
       ∷ codes "lpinsert: F40 NoStates VDD"
       ∷ codes "lpinsert: F41 GroundLevel VSS"
-      ∷ codes "lpinsert: F42 StateMismatch 2"
+      ∷ line_text (codes "F42 StateMismatch") (decimal 2 ∷ [])
       ∷ codes "lpinsert: F42 StateMismatch u/SW"
       ∷ codes "lpinsert: F63 GroundMismatch SS u/PC.primary"
       ∷ []
@@ -215,32 +223,32 @@ module _ (s : Strategy) (d : Domain) (w : PowerSwitch) (p : SupplyPort) (g : Sup
 
   strategies_have_domains :
       map (line_of known)
-        (faults.Design (designs.Strategy (strategies.Loop (node 5)))
-        ∷ faults.Design (designs.Strategy (strategies.NotBoundary (strategy 0) (elements.Inst (inst 0))))
-        ∷ faults.Design (designs.Strategy (strategies.NotBoundary (strategy 1) (elements.Port (inst 1) 0)))
-        ∷ faults.Design (designs.Strategy (strategies.Tied (sites.Bit (edge 0)) (strategy 0) (strategy 1)))
-        ∷ faults.Design (designs.Strategy (strategies.SplitSinks (edge 1) (strategy 0)))
-        ∷ faults.Design (designs.Strategy (strategies.UncoveredIsolation (drivers.Pin (leaf 1) 1) (readers.Pin (leaf 0) 0) 0))
-        ∷ faults.Design (designs.Strategy (strategies.UncoveredLevel drivers.Nothing (readers.Clamp (edge 2)) 2))
-        ∷ faults.Design (designs.Strategy (strategies.ShiftForbidden (drivers.Port (node 0)) (readers.Port (node 5)) 1))
-        ∷ faults.Design (designs.Strategy (strategies.LocationOrder (edge 0) (strategy 0) (strategy 1)))
-        ∷ faults.Design (designs.Strategy (strategies.NoPlace (edge 3) (strategy 1)))
-        ∷ faults.Design (designs.Strategy (strategies.ControlLevel (controls.Switch 0) (node 2) 3))
-        ∷ faults.Design (designs.Strategy (strategies.NoCell (entries.Switch 0)))
-        ∷ faults.Design (designs.Strategy (strategies.NoSupply (sites.Register (leaf 1)) (strategy 0)))
-        ∷ faults.Design (designs.Strategy (strategies.UnfitPower (leaf 0)))
-        ∷ [])
+      (faults.Design (designs.Strategy (strategies.Loop (node 5)))
+      ∷ faults.Design (designs.Strategy (strategies.NotBoundary (strategy 0) (elements.Inst (inst 0))))
+      ∷ faults.Design (designs.Strategy (strategies.NotBoundary (strategy 1) (elements.Port (inst 1) 0)))
+      ∷ faults.Design (designs.Strategy (strategies.Tied (sites.Bit (edge 0)) (strategy 0) (strategy 1)))
+      ∷ faults.Design (designs.Strategy (strategies.SplitSinks (edge 1) (strategy 0)))
+      ∷ faults.Design (designs.Strategy (strategies.UncoveredIsolation (drivers.Pin (leaf 1) 1) (readers.Pin (leaf 0) 0) 0))
+      ∷ faults.Design (designs.Strategy (strategies.UncoveredLevel drivers.Nothing (readers.Clamp (edge 2)) 2))
+      ∷ faults.Design (designs.Strategy (strategies.ShiftForbidden (drivers.Port (node 0)) (readers.Port (node 5)) 1))
+      ∷ faults.Design (designs.Strategy (strategies.LocationOrder (edge 0) (strategy 0) (strategy 1)))
+      ∷ faults.Design (designs.Strategy (strategies.NoPlace (edge 3) (strategy 1)))
+      ∷ faults.Design (designs.Strategy (strategies.ControlLevel (controls.Switch 0) (node 2) 3))
+      ∷ faults.Design (designs.Strategy (strategies.NoCell (entries.Switch 0)))
+      ∷ faults.Design (designs.Strategy (strategies.NoSupply (sites.Register (leaf 1)) (strategy 0)))
+      ∷ faults.Design (designs.Strategy (strategies.UnfitPower (leaf 0)))
+      ∷ [])
       ≡ codes "lpinsert: F21 Loop q"
       ∷ codes "lpinsert: F50 NotBoundary u/PC.I1 soc"
       ∷ codes "lpinsert: F50 NotBoundary PT.I2 u/o"
-      ∷ codes "lpinsert: F51 Tied u/o[3] u/PC.I1 PT.I2"
-      ∷ codes "lpinsert: F52 SplitSinks u/v+/d[0] u/PC.I1"
-      ∷ codes "lpinsert: F53 UncoveredIsolation u/v+/r/Y b/A 0"
-      ∷ codes "lpinsert: F54 UncoveredLevel none u/v+/d[0] 2"
-      ∷ codes "lpinsert: F55 ShiftForbidden q q 1"
-      ∷ codes "lpinsert: F57 LocationOrder u/o[3] u/PC.I1 PT.I2"
+      ∷ line_text (codes "F51 Tied") (bit (codes "u/o") 3 ∷ codes "u/PC.I1" ∷ codes "PT.I2" ∷ [])
+      ∷ line_text (codes "F52 SplitSinks") (bit (codes "u/v+/d") 0 ∷ codes "u/PC.I1" ∷ [])
+      ∷ line_text (codes "F53 UncoveredIsolation") (codes "u/v+/r/Y" ∷ codes "b/A" ∷ decimal 0 ∷ [])
+      ∷ line_text (codes "F54 UncoveredLevel") (codes "none" ∷ bit (codes "u/v+/d") 0 ∷ decimal 2 ∷ [])
+      ∷ line_text (codes "F55 ShiftForbidden") (codes "q" ∷ codes "q" ∷ decimal 1 ∷ [])
+      ∷ line_text (codes "F57 LocationOrder") (bit (codes "u/o") 3 ∷ codes "u/PC.I1" ∷ codes "PT.I2" ∷ [])
       ∷ codes "lpinsert: F58 NoPlace q PT.I2"
-      ∷ codes "lpinsert: F59 ControlLevel u/SW w[3] 3"
+      ∷ line_text (codes "F59 ControlLevel") (codes "u/SW" ∷ bit (codes "w") 3 ∷ decimal 3 ∷ [])
       ∷ codes "lpinsert: F60 NoCell u/SW"
       ∷ codes "lpinsert: F62 NoSupply u/v+/r u/PC.I1"
       ∷ codes "lpinsert: F66 UnfitPower b"
@@ -250,20 +258,20 @@ module _ (s : Strategy) (d : Domain) (w : PowerSwitch) (p : SupplyPort) (g : Sup
 
   checked_netlists_have_paths :
       map (line_of known)
-        (faults.Check (check.Instance (lost.Port 0))
-        ∷ faults.Check (check.Instance (lost.Added (inst 2)))
-        ∷ faults.Check (check.Edge (readers.Pin (leaf 0) 0))
-        ∷ faults.Check (check.Control (entries.Bit (edge 0) (strategy 0)))
-        ∷ faults.Check (check.Control (entries.Switch 0))
-        ∷ faults.Check (check.Supply (supplied.Pin (leaf 1) 0))
-        ∷ faults.Check (check.Supply (supplied.Port (origin 0)))
-        ∷ faults.Check (check.Cell (leaf 1))
-        ∷ faults.Check (check.UnusedSwitch 0)
-        ∷ [])
+      (faults.Check (check.Instance (lost.Port 0))
+      ∷ faults.Check (check.Instance (lost.Added (inst 2)))
+      ∷ faults.Check (check.Edge (readers.Pin (leaf 0) 0))
+      ∷ faults.Check (check.Control (entries.Bit (edge 0) (strategy 0)))
+      ∷ faults.Check (check.Control (entries.Switch 0))
+      ∷ faults.Check (check.Supply (supplied.Pin (leaf 1) 0))
+      ∷ faults.Check (check.Supply (supplied.Port (origin 0)))
+      ∷ faults.Check (check.Cell (leaf 1))
+      ∷ faults.Check (check.UnusedSwitch 0)
+      ∷ [])
       ≡ codes "lpinsert: C1 Instance q"
       ∷ codes "lpinsert: C1 Instance u/v+"
       ∷ codes "lpinsert: C2 Edge b/A"
-      ∷ codes "lpinsert: C3 Control u/o[3] u/PC.I1"
+      ∷ line_text (codes "C3 Control") (bit (codes "u/o") 3 ∷ codes "u/PC.I1" ∷ [])
       ∷ codes "lpinsert: C3 Control u/SW none"
       ∷ codes "lpinsert: C4 Supply u/v+/r VDD"
       ∷ codes "lpinsert: C4 Supply soc VDD"
