@@ -152,6 +152,7 @@ impl Entry {
         }
     }
 
+    /// A wire whose name begins at this byte of the text.
     pub fn wire(range: Option<BitRange>, at: usize) -> Entry
         ensures { result ≡ wire range at }
     {
@@ -165,6 +166,7 @@ impl Entry {
         }
     }
 
+    /// An instance whose name begins at this byte of the text.
     pub fn instance(at: usize) -> Entry
         ensures { result ≡ instance_entry at }
     {

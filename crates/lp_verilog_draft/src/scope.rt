@@ -50,6 +50,7 @@ impl Model for Scope {
 }
 
 impl Scope {
+    /// A scope without names.
     pub fn new(alloc: Global) -> Scope
         ensures { result ≡ [] }
     {

@@ -51,6 +51,7 @@ fn goes_along(range: BitRange, first: u32, second: u32) -> bool
 }
 
 impl Value {
+    /// No value yet.
     pub fn new(alloc: Global) -> Value
         ensures { result ≡ no_value }
     {
@@ -63,12 +64,14 @@ impl Value {
         }
     }
 
+    /// Says where the values that follow stand.
     pub fn set_side(&mut self, side: Side)
         ensures { self.new ≡ value_side side self.old }
     {
         self.side = side;
     }
 
+    /// The name that the value goes on with, and its range where it is a vector.
     pub fn set_subject(&mut self, name: NameId, range: Option<BitRange>)
         ensures { self.new ≡ value_subject name range self.old }
     {
