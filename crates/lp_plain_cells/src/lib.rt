@@ -6,6 +6,3 @@ mod down;
 mod rails;
 
 pub use cell::is_plain;
-
-#[cfg(test)]
-mod tests;

@@ -26,6 +26,3 @@ pub use never::NeverFails;
 pub use place::Place;
 pub use shelf::{LIMIT, Shelf, ShelfFault};
 pub use word::Word;
-
-#[cfg(test)]
-mod tests;

@@ -20,7 +20,7 @@ pub enum Form {
 }
 
 /// The declaration that is read.
-#[derive(Clone, Copy, Debug)]
+#[derive(Clone, Copy)]
 pub struct Declaring {
     pub form: Form,
     pub direction: Direction,

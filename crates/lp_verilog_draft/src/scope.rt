@@ -19,7 +19,7 @@ pub enum Kind {
 }
 
 /// A declaration of a module.
-#[derive(Clone, Copy, Debug)]
+#[derive(Clone, Copy)]
 pub struct Entry {
     pub kind: Kind,
     /// The direction of a port, once it is given.
