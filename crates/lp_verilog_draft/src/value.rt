@@ -10,7 +10,7 @@ use lp_text::{NameId, NoMemory};
 use std::alloc::Global;
 
 /// Where a value stands.
-#[derive(Clone, Copy, Debug, PartialEq, Eq)]
+#[derive(Clone, Copy)]
 pub enum Side {
     /// On the left side of an assignment.
     Left,
@@ -142,7 +142,7 @@ impl Value {
     pub fn push_constant(&mut self, size: u8, value: u128) -> Result<(), Stop>
         ensures { Gives result self.new (value_constant size value self.old) }
     {
-        if self.side == Side::Left {
+        if matches!(self.side, Side::Left) {
             return Err(Stop::Off(Off::Syntax));
         }
         self.bits.push_constant(size, value)?;
