@@ -243,6 +243,7 @@ fn strategy_of(alloc: Global, name: NameId, domain: u32) -> Strategy {
         kind: StrategyKind::Isolation,
         name,
         domain,
+        command: 0,
         threshold: 0,
         elements: None,
         excluded: Items::new(alloc),
