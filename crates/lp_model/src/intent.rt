@@ -240,6 +240,8 @@ pub struct Strategy {
     pub name: NameId,
     /// Its domain: counts the domains in command order from 0.
     pub domain: u32,
+    /// The number of the command that made it, from 0.
+    pub command: u32,
     /// The differences of voltage up to which no shifter is wanted (`-threshold`), in microvolts, at most 10^12.
     pub threshold: u64,
     /// What `-elements` names; none where the option is not given.

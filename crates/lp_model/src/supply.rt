@@ -60,7 +60,8 @@ pub struct Supplies {
     pub origins: Items<Origin>,
     /// The rows, counted from 1. Where there is none, one row of number 0 leaves everything free.
     pub rows: Items<Row>,
-    /// For each supply set its origins; none for a set that is not used and lacks one.
+    /// For each supply set that a domain handle, a strategy or a port attribute names its origins; none for any other,
+    /// which is not used: it makes no origin a ground.
     pub sets: Items<Option<SetOrigins>>,
 }
 

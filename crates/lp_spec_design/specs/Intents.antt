@@ -29,9 +29,11 @@ pub data Named : Type 0 where
   BySet : SetNumber → Named
   ByDomain : ℕ → Named
 
+-- the command is the number of the one that made it, from 0
 pub record Strategy : Type 0 where
   pub kind : StrategyKind
   pub domain : ℕ
+  pub command : ℕ
   pub inserts : Bool
   pub elements : Option (List Element)
   pub excluded : List Element

@@ -200,6 +200,7 @@ abbrev pub isolation : ℕ → Option (List Element) → Applies → Strategy
 isolation domain elements which = record {
   kind = kinds.Isolation;
   domain = domain;
+  command = 0;
   inserts = true;
   elements = elements;
   excluded = [];
@@ -227,6 +228,7 @@ abbrev pub shifting : ℕ → ℕ → Strategy
 shifting domain threshold = record {
   kind = kinds.Shifting;
   domain = domain;
+  command = 0;
   inserts = true;
   elements = None;
   excluded = [];

@@ -8,12 +8,13 @@ ghost use Rattle.lp_behaviour.specs.Signals.{known};
 ghost use Rattle.lp_spec_design.specs.Intents.{SetNumber, Strategy, Intent, Network};
 ghost use Rattle.lp_spec_design.specs.Winners.{Crossing, IsIn, applying, rank, winner};
 ghost use Rattle.lp_spec_design.specs.Chains.{Operator, Clamp, by_rule, clamp_of, part, rail_after, target};
-ghost use Rattle.lp_spec_settling.specs.Settling.{IsOrder, Covers, SettlesOnce};
+ghost use Rattle.lp_spec_settling.specs.Settling.{HasOrder, SettlesOnce};
 ghost use Rattle.lp_spec_design.specs.Keys.{Node};
 ghost use Rattle.lp_spec_design.specs.Chains.{rail};
-ghost use Rattle.lp_spec_design.specs.Settled.{Assignment, Design, Event, HasFuel, Key, Registers, SettlesIntent, active, at, equation, set_on, through};
+ghost use Rattle.lp_spec_design.specs.Settled.{Assignment, Design, Event, HasFuel, Registers, SettlesIntent, active, at, equation, set_on, through};
 ghost use Rattle.lp_spec_design.specs.Reads.{keys, reads};
-ghost use Rattle.lp_spec_design.specs.Registers.{States, RunsOnce};
+ghost use Rattle.lp_spec_design.specs.Registers.{States};
+ghost use Rattle.lp_spec_design.specs.Runs.{RunsOnce, SameRegisters};
 
 /// A winner is the only strategy of its rank among those of its kind that apply to the side.
 pub fn winner_is_alone()
@@ -43,14 +44,19 @@ pub fn lost_behind_an_off_supply()
 
 /// Where all that occurs in the equations under intent has an order, exactly one assignment settles.
 pub fn settles_once()
-    ensures { (d : Design) (event : Event) (registers : Registers) (order : List Key) → IsOrder keys (reads d) order → Covers keys (reads d) order → SettlesOnce (equation d event registers) }
+    ensures { (d : Design) (event : Event) (registers : Registers) → HasOrder keys (reads d) → SettlesOnce (equation d event registers) }
 {}
 
 /// Where all that occurs in the equations under intent has an order, there is exactly one run of the source over a list
 /// of events, from what settled before them, if
 /// anything did, and from the states of its registers.
 pub fn runs_once()
-    ensures { (d : Design) (last : Option Assignment) (states : States) (events : List Event) (order : List Key) → IsOrder keys (reads d) order → Covers keys (reads d) order → RunsOnce d last states events }
+    ensures { (d : Design) (last : Option Assignment) (states : States) (events : List Event) → HasOrder keys (reads d) → RunsOnce d last states events }
+{}
+
+/// Registers are equal to themselves.
+pub fn same_registers_as_themselves()
+    ensures { (d : Design) (states : States) → SameRegisters d states states }
 {}
 
 /// A node whose rail is not on is X in every assignment that settles under intent.
