@@ -19,7 +19,7 @@ use sqlite_items::Items;
 use std::alloc::Global;
 
 /// Why a text is not read.
-#[derive(Clone, Copy, Debug)]
+#[derive(Clone, Copy)]
 pub(crate) enum Halt<'a> {
     /// A token cannot stand where it does: why, the number of its first byte, and its bytes.
     Left(Off, usize, &'a [u8]),
