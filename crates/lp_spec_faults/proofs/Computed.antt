@@ -22,7 +22,7 @@ use Rattle.lp_spec_realises.specs.Samples.{inverter, cells, supplies, project, b
 use Rattle.lp_spec_faults.specs.Lines.{first_of}
 use Rattle.lp_spec_faults.specs.Domains.{no_domain, no_primary}
 use Rattle.lp_spec_faults.specs.Strategies.{split_sinks, shift_target, SideAt, StrategyAt, Where, OnSide, OnRegister, not_boundary, tied, no_place, no_supply, two_shifters, location_order, shift_supply}
-use Rattle.lp_spec_faults.specs.Readings.{row_of_level, row_of_leak, Reading, ClampReads, PinReads, StrategyAsks, unfit_power, shift_forbidden, uncovered_level, uncovered_isolation, control_level, loop, no_cell}
+use Rattle.lp_spec_faults.specs.Readings.{row_of_level, row_of_leak, Reading, ClampReads, PinReads, unfit_power, shift_forbidden, uncovered_level, uncovered_isolation, control_level, loop, no_cell}
 
 -- ---- domains
 
@@ -144,7 +144,7 @@ forbidden : map (λ t. reader_of (first_of (shift_forbidden (lower (project (wit
 forbidden = refl
 
 -- the control of the clamp comes from the lower block, or from the top
-controls : map (λ k. option_and_then (λ x. Some tt) (first_of (control_level (lower (project (with_strategies (record (isolation 1 None Outputs) { control = Some k } ∷ [])))) (StrategyAsks 0 ∷ [])))) (Inner (codes "i") None (codes "u" ∷ []) ∷ Inner (codes "o") None (codes "u" ∷ []) ∷ []) ≡ None ∷ Some (tt {0}) ∷ []
+controls : map (λ k. option_and_then (λ x. Some tt) (first_of (control_level (lower (project (with_strategies (record (isolation 1 None Outputs) { control = Some k } ∷ [])))) (λ o. 1)))) (Inner (codes "i") None (codes "u" ∷ []) ∷ Inner (codes "o") None (codes "u" ∷ []) ∷ []) ≡ None ∷ Some (tt {0}) ∷ []
 controls = refl
 
 -- ---- cells
