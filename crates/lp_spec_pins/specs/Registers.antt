@@ -1,5 +1,5 @@
 -- The states of registers after an event, by pins (Liberty ff, latch and retention_cell; own rule).
-use Rattle.std.specs.Prelude.{◌≡◌, Bool, List, [], ◌∷◌, Option, Some, None, option_and_then, is_some}
+use Rattle.std.specs.Prelude.{Bool, Option, Some, None, option_and_then, is_some}
 use Rattle.lp_tern.specs.declared.tern.Tern.{Tern}
 use Rattle.lp_tern.specs.declared.tern.Tern.TheVariants.{X}
 use Rattle.lp_model.specs.declared.library.Action.{Action}
@@ -11,7 +11,7 @@ use Rattle.lp_spec_design.specs.Keys.{Name, Path}
 use Rattle.lp_spec_design.specs.Netlists.{first, cell_at}
 use Rattle.lp_spec_design.specs.Settled.{kept}
 use Rattle.lp_spec_design.specs.Registers.{States, cell_after}
-use Rattle.lp_spec_pins.specs.Pins.{Powered, PinAssignment, PinEvent, pins_read, is_up, SettlesPins}
+use Rattle.lp_spec_pins.specs.Pins.{Powered, PinAssignment, pins_read, is_up}
 
 -- ---- retention pins
 
@@ -73,18 +73,3 @@ states_after_by_pins w last B s = record {
   main = λ p x. main_in w last B s p x (cell_at w.structure p x);
   saved = λ p x. saved_in w last B s p x (cell_at w.structure p x);
 }
-
--- ---- runs
-
--- an assignment for each event: it settles with the present states, and leads to the next ones
-abbrev pub IsRunByPins : Powered → Option PinAssignment → States → List PinEvent → List PinAssignment → Type 0
-IsRunByPins w last s [] [] = Unit {0}
-IsRunByPins w last s (ev ∷ events) (B ∷ more) = SettlesPins w ev s.main B × IsRunByPins w (Some B) (states_after_by_pins w last B s) events more
-IsRunByPins w last s [] (B ∷ more) = ⊥
-IsRunByPins w last s (ev ∷ events) [] = ⊥
-
--- there is a run, and it is the only one
-pub record RunsOnceByPins (w : Powered) (last : Option PinAssignment) (s : States) (events : List PinEvent) : Type 0 where
-  pub run : List PinAssignment
-  pub is_run : IsRunByPins w last s events run
-  pub only : (other : List PinAssignment) → IsRunByPins w last s events other → other ≡ run

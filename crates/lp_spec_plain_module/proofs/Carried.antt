@@ -15,7 +15,7 @@ use Rattle.lp_spec_pins.specs.Pins.{is_power, supply_of_node}
 use Rattle.lp_spec_plain.specs.Cells.{is_plain_cell}
 use Rattle.lp_spec_plain.specs.Designs.{IsPlain}
 use Rattle.lp_spec_plain.specs.Carried.{IsJoined, Carries}
-use Rattle.lp_spec_plain.specs.Alike.{output_bits}
+use Rattle.lp_spec_design.specs.Runs.{output_bits}
 use Rattle.lp_spec_plain.proofs.Reading.{all-first}
 use Rattle.lp_spec_plain_module.specs.Designs.{Flat, one_set, design_of}
 use Rattle.lp_spec_plain_module.specs.Netlists.{power_port, ground_port, port_of_pin, joined, joins_of, with_joins, powered_instance, is_supply, netlist_of, is_own}
