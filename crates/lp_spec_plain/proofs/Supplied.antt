@@ -10,8 +10,8 @@ use Rattle.lp_spec_design.specs.Keys.{Name, Path, Node}
 use Rattle.lp_spec_design.specs.Netlists.{module_at, cell_at}
 use Rattle.lp_spec_design.specs.Graph.{below}
 use Rattle.lp_spec_design.specs.Settled.{Design}
-use Rattle.lp_spec_pins.specs.Pins.{Powered, is_joined, supply_of_pin}
-use Rattle.lp_spec_pins.specs.Supplied.{PgPinAt, pg_pins_of, pg_pins_in, is_supplied}
+use Rattle.lp_spec_pins.specs.Pins.{Powered, is_joined}
+use Rattle.lp_spec_pins.specs.Supplied.{PgPinAt, pg_pins_of, pg_pins_in, has_one_supply, is_supplied}
 use Rattle.lp_spec_plain.specs.Carried.{IsJoined, Carries}
 
 all-flat : {A B : Type 0} (p : B → Bool) (f : A → List B) (xs : List A) → ((x : A) → list_all p (f x) ≡ true) → list_all p (flat_map f xs) ≡ true
@@ -20,12 +20,12 @@ all-flat p f (x ∷ xs) h = list_all-append p (f x) (flat_map f xs) ∙ and_from
 
 module _ (d : Design) (w : Powered) (own : Node → Bool) (power gnd : Name) (carries : Carries d w own power gnd) where
   is_at : PgPinAt → Bool
-  is_at a = is_joined (supply_of_pin w a.path a.instance a.pin)
+  is_at a = has_one_supply w a
 
   pins : (p : Path) (x : InstanceView) (gs : List PgPinView) → AllByRecursion (IsJoined w p x.name power gnd) gs → list_all is_at (map (λ (g : PgPinView). record { path = p; instance = x.name; pin = g.name }) gs) ≡ true
   unfolding is_at
   pins p x [] all = refl
-  pins p x (g ∷ gs) all = ap (λ o. is_joined o && list_all is_at (map (λ (h : PgPinView). record { path = p; instance = x.name; pin = h.name }) gs)) all.0 ∙ pins p x gs all.1
+  pins p x (g ∷ gs) all = and_from _ _ (and_from _ _ (ap is_joined all.0.0) all.0.1) (pins p x gs all.1)
 
   of_cell : (p : Path) (x : InstanceView) (c : Option CellView) → cell_at d.structure p x.name ≡ c → list_all is_at (pg_pins_of p x c) ≡ true
   of_cell p x None e = refl

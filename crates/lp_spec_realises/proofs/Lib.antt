@@ -1,1 +1,3 @@
 mod Computed
+mod Judged
+pub mod Netlists

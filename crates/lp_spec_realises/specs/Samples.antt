@@ -1,5 +1,5 @@
 -- A small design with its supplies, on which the definitions are computed.
-use Rattle.std.specs.Prelude.{ℕ, ◌==◌, List, [], ◌∷◌, Some, None, codes, if◌then◌else◌}
+use Rattle.std.specs.Prelude.{ℕ, List, [], ◌∷◌, Some, None, codes}
 use Rattle.lp_expr.specs.declared.step.Step.TheVariants.{Variable, Not}
 use Rattle.lp_model.specs.declared.intent.Applies.TheVariants.{Outputs}
 use Rattle.lp_model.specs.declared.intent.DeclaredState.{DeclaredState}
@@ -43,7 +43,7 @@ project i = record {
   node = λ k. Inner (codes "en") None [];
   margin = 0;
   fuel = 8;
-  port_of_origin = λ o. if o == 0 then codes "lp_v_VDD" else if o == 1 then codes "lp_v_VDC" else codes "lp_v_VSS";
+  origin_names = codes "VDD" ∷ codes "VDC" ∷ codes "VDE" ∷ codes "VSS" ∷ [];
 }
 
 abbrev pub by_the_block : Intent

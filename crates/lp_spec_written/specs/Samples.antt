@@ -1,5 +1,5 @@
 -- Small designs on which the written netlists are computed.
-use Rattle.std.specs.Prelude.{◌==◌, false, List, [], ◌∷◌, ◌++◌, Some, None, codes, if◌then◌else◌}
+use Rattle.std.specs.Prelude.{false, List, [], ◌∷◌, ◌++◌, Some, None, codes}
 use Rattle.lp_model.specs.declared.intent.Applies.{Applies}
 use Rattle.lp_model.specs.declared.intent.Applies.TheVariants.{Inputs, Outputs}
 use Rattle.lp_model.specs.declared.intent.DeclaredState.{DeclaredState}
@@ -42,7 +42,7 @@ project modules i = record {
   node = λ k. Inner (codes "en") None [];
   margin = 0;
   fuel = 8;
-  port_of_origin = λ o. if o == 0 then codes "lp_v_VDD" else if o == 1 then codes "lp_v_VDC" else codes "lp_v_VSS";
+  origin_names = codes "VDD" ∷ codes "VDC" ∷ codes "VSS" ∷ [];
 }
 
 -- no strategy names cells, and switches are made in the top
