@@ -47,13 +47,9 @@ fn fails_by_number(rt: HostRuntime) -> Result<(), Fail> {
     shelf.add_file("a", b"one")?;
     copy(alloc, &mut shelf, "a", "b")?;
     assert_eq!(rt; shelf.contents("b"), Some(b"one".as_slice()));
-    assert_eq!(rt; shelf.read(alloc, "a"), Err(ShelfFault::Failed));
-    assert_eq!(rt;
-        shelf.read(alloc, "c"),
-        Err(ShelfFault::Failed),
-        "no such file"
-    );
-    assert_eq!(rt; shelf.write("a", b"two"), Err(ShelfFault::Failed));
+    assert!(rt; matches!(shelf.read(alloc, "a"), Err(ShelfFault::Failed)));
+    assert!(rt; matches!(shelf.read(alloc, "c"), Err(ShelfFault::Failed)));
+    assert!(rt; matches!(shelf.write("a", b"two"), Err(ShelfFault::Failed)));
     let kept = shelf.contents("a").ok_or("a is gone")?;
     assert_eq!(rt; kept, b"one".as_slice());
     shelf.say(b" more")?;
@@ -72,7 +68,7 @@ fn never_fails(rt: HostRuntime) -> Result<(), Fail> {
     assert_eq!(rt; shelf.contents("b"), Some(b"one".as_slice()));
     assert_eq!(rt; shelf.said_bytes(), b"one".as_slice());
     shelf.add_file("a", vec![in alloc; 0u8; LIMIT + 1]?.as_slice())?;
-    assert_eq!(rt; shelf.read(alloc, "a"), Err(ShelfFault::TooLong));
+    assert!(rt; matches!(shelf.read(alloc, "a"), Err(ShelfFault::TooLong)));
     Ok(())
 }
 
@@ -83,15 +79,15 @@ fn keeps_files(rt: HostRuntime) -> Result<(), Fail> {
     let process = process::id(rt.process());
     let name = format!(in alloc; "{}/lp_text_{process}", dir.display())?;
     let mut shelf = FileShelf::new(&rt, &rt);
-    assert_eq!(rt; shelf.read(alloc, &name), Err(ShelfFault::Failed));
+    assert!(rt; matches!(shelf.read(alloc, &name), Err(ShelfFault::Failed)));
     shelf.write(&name, b"longer than what follows")?;
     shelf.write(&name, b"whole")?;
     assert_eq!(rt; shelf.read(alloc, &name)?.as_slice(), b"whole".as_slice());
     shelf.say(b"")?;
     fs::remove_file(&rt, &name)?;
-    assert_eq!(rt; shelf.write("/dev/full", b"x"), Err(ShelfFault::Failed));
-    assert_eq!(rt; shelf.read(alloc, "/dev/zero"), Err(ShelfFault::TooLong));
-    assert_eq!(rt; shelf.read(alloc, "/"), Err(ShelfFault::Failed), "a folder");
+    assert!(rt; matches!(shelf.write("/dev/full", b"x"), Err(ShelfFault::Failed)));
+    assert!(rt; matches!(shelf.read(alloc, "/dev/zero"), Err(ShelfFault::TooLong)));
+    assert!(rt; matches!(shelf.read(alloc, "/"), Err(ShelfFault::Failed)));
     Ok(())
 }
 
@@ -112,8 +108,8 @@ fn names_keep_their_numbers(rt: HostRuntime) -> Result<(), Fail> {
 #[test]
 fn places_count_lines_and_bytes(rt: HostRuntime) {
     let text = b"ab\n\nc";
-    assert_eq!(rt; Place::of(text, 0), Place { line: 1, column: 1 });
-    assert_eq!(rt; Place::of(text, 2), Place { line: 1, column: 3 });
-    assert_eq!(rt; Place::of(text, 3), Place { line: 2, column: 1 });
-    assert_eq!(rt; Place::of(text, 5), Place { line: 3, column: 2 });
+    for (index, line, column) in [(0, 1, 1), (2, 1, 3), (3, 2, 1), (5, 3, 2)] {
+        let place = Place::of(text, index);
+        assert_eq!(rt; (place.line, place.column), (line, column));
+    }
 }
