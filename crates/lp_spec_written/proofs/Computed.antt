@@ -11,6 +11,7 @@ use Rattle.lp_spec_written.specs.Supplies.{wire, joined_to}
 use Rattle.lp_spec_faults.specs.Lines.{first_of}
 use Rattle.lp_spec_written.specs.Written.{written}
 use Rattle.lp_spec_written.specs.Limits.{added_names, name_limit}
+use Rattle.lp_spec_written.specs.Shared.{shared}
 use Rattle.lp_spec_written.proofs.Digits.{closed}
 use Rattle.lp_spec_written.proofs.Shapes.{input, output, instance}
 
@@ -58,7 +59,7 @@ added_to_clamped : length (added_names clamped_modules) ≡ 7
 added_to_clamped = refl
 
 few_names : first_of (name_limit clamped any_cell) ≡ None
-few_names = ap (λ modules. cond (nat_lt 1000000000 (length (added_names modules))) (Some limits.Names) None) written_clamped
+few_names = ap (λ modules. cond (nat_lt 1000000000 (length (added_names (shared modules)))) (Some limits.Names) None) written_clamped
 
 -- ---- who reads the output in the block reads it before the clamp
 
