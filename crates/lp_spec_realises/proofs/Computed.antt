@@ -159,6 +159,10 @@ left_open = refl
 loop_for_an_open_net : verdict open_net (looped (assigned (codes "y") (NetBit (codes "n")) ∷ assigned (codes "n") (NetBit (codes "y")) ∷ [])) ≡ (false, true)
 loop_for_an_open_net = refl
 
+-- the same by nets that are not declared
+undeclared_loop : verdict open_net (looped (assigned (codes "y") (NetBit (codes "m")) ∷ assigned (codes "m") (NetBit (codes "k")) ∷ assigned (codes "k") (NetBit (codes "m")) ∷ [])) ≡ (false, true)
+undeclared_loop = refl
+
 -- ---- a port that is turned round goes by place
 
 abbrev pass_through : List PortView → ModuleView
