@@ -10,6 +10,7 @@ use Rattle.lp_model.specs.declared.netlist.BitRange.{BitRange}
 use Rattle.lp_model.specs.NetlistView.{PortView, NetView, InstanceView, ModuleView}
 use Rattle.lp_spec_design.specs.Keys.{Name, Node, Inner, Outer, PortBit, Source, Environment, From, same_index}
 use Rattle.lp_spec_design.specs.Netlists.{Structure, first, is_instantiated, module_at, indices, is_input}
+use Rattle.lp_spec_design.specs.Nodes.{fuel_of}
 use Rattle.lp_spec_design.specs.Graph.{outside, sources_of, source_of, trail, going_back, way_in, beginning}
 use Rattle.lp_spec_design.specs.Reads.{name-true, name-self}
 use Rattle.lp_spec_design.specs.Settled.{Event}
@@ -152,7 +153,7 @@ module _ (n : Name) where
 
 -- ---- the supply at the port of an origin
 
-module _ (p : Project) (modules : List ModuleView) (fuel : ℕ) (netlist : IsProjectNetlist p modules fuel) (at : Placement) (o : ℕ) (is : list_any (λ k. k == o) (port_origins p) ≡ true) where
+module _ (p : Project) (modules : List ModuleView) (netlist : IsProjectNetlist p modules) (at : Placement) (o : ℕ) (is : list_any (λ k. k == o) (port_origins p) ≡ true) where
   abbrev n : Name
   n = port_of_origin p o
 
@@ -162,9 +163,9 @@ module _ (p : Project) (modules : List ModuleView) (fuel : ℕ) (netlist : IsPro
   there : has_origin p w o ≡ true
   there = passed (has_origin p w) (port_origins p) o netlist.origins is
 
-  pub supply_at_port : supply_of_node (powered_of p modules fuel at) (Outer n None) ≡ Some (FromTop n)
+  pub supply_at_port : supply_of_node (powered_of p modules at) (Outer n None) ≡ Some (FromTop n)
   supply_at_port =
       let apart = (and_parts _ _ netlist.names_apart).1 in
-      ap (λ k. supply_begun (powered_of p modules fuel at) k (source_of w k)) (begins_there n w apart there fuel)
-      ∙ (ap (supply_begun (powered_of p modules fuel at) (Outer n None)) (from_outside n w apart there)
+      ap (λ k. supply_begun (powered_of p modules at) k (source_of w k)) (begins_there n w apart there (fuel_of w))
+      ∙ (ap (supply_begun (powered_of p modules at) (Outer n None)) (from_outside n w apart there)
       ∙ ap (λ k. cond (is_some k) (Some (FromTop n)) None) (origin_found p netlist.origins_apart o is))

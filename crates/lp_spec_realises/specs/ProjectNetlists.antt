@@ -2,9 +2,11 @@
 use Rattle.std.specs.Prelude.{ℕ, ◌==◌, nat_le, nat_lt, Bool, true, false, not, ◌&&◌, ◌||◌, List, [], ◌∷◌, ◌++◌, map, length, Option, Some, None, is_some, is_none, bytes_eq, flat_map, slice_get, IsTrue}
 use Rattle.std.specs.List.{list_any, list_all}
 use Rattle.lp_model.specs.NetlistView.{BitView, NetBit, SelectBit, ConstBit, PortView, NetView, ConnectionView, ConnectionsView, ByName, ByPosition, InstanceView, AssignView, ModuleView}
-use Rattle.lp_spec_design.specs.Keys.{Name, Path, Node, Inner, same_index}
-use Rattle.lp_spec_design.specs.Netlists.{Structure, module_named, cell_named, module_at, indices, is_input}
-use Rattle.lp_spec_design.specs.Graph.{sources_of, wire_source, way_in, below, numbered, some_of}
+use Rattle.lp_spec_design.specs.Keys.{Name, Node, same_index}
+use Rattle.lp_spec_design.specs.Netlists.{Structure, module_named, cell_named, is_input}
+use Rattle.lp_spec_design.specs.Instances.{below}
+use Rattle.lp_spec_design.specs.Nodes.{nodes_of, fuel_of}
+use Rattle.lp_spec_design.specs.Graph.{sources_of, wire_source, way_in, numbered, some_of}
 use Rattle.lp_spec_design.specs.Intents.{Origin, FromPort, FromSwitch}
 use Rattle.lp_spec_realises.specs.Projects.{Project, network_of, port_of_origin}
 use Rattle.lp_spec_realises.specs.Controls.{is_scalar, all_bits}
@@ -16,23 +18,13 @@ netlist_of p modules = record { modules = modules; cells = p.structure.cells }
 
 -- ---- it elaborates
 
--- TEMPORARY
-abbrev pub nodes_in : Path → Option ModuleView → List Node
-nodes_in path None = []
-nodes_in path (Some m) =
-    flat_map (λ (x : PortView). map (λ i. Inner x.name i path) (indices x.range)) m.ports
-    ++ flat_map (λ (x : NetView). map (λ i. Inner x.name i path) (indices x.range)) m.nets
-
-abbrev pub all_nodes : Structure → List Node
-all_nodes s = flat_map (λ path. nodes_in path (module_at s path)) (below s 64 [])
-
--- each net bit has at most one source
+-- each node has at most one source
 abbrev pub has_single_source : Structure → Node → Bool
 has_single_source w k = nat_le (length (sources_of w k)) 1
 
 -- no wire loop: what each wire begins in is no way
-abbrev pub has_beginning : Structure → ℕ → Node → Bool
-has_beginning w fuel k = is_none (way_in (wire_source w fuel k))
+abbrev pub has_beginning : Structure → Node → Bool
+has_beginning w k = is_none (way_in (wire_source w (fuel_of w) k))
 
 -- the target of each instance is a module or a cell
 abbrev pub is_known : Structure → InstanceView → Bool
@@ -106,9 +98,9 @@ has_origin p w o = list_any (is_scalar_input (port_of_origin p o)) (top_ports w)
 
 -- ---- the whole
 
-pub record IsProjectNetlist (p : Project) (modules : List ModuleView) (fuel : ℕ) : Type 0 where
-  pub one_source : IsTrue (list_all (has_single_source (netlist_of p modules)) (all_nodes (netlist_of p modules)))
-  pub no_loop : IsTrue (list_all (has_beginning (netlist_of p modules) fuel) (all_nodes (netlist_of p modules)))
+pub record IsProjectNetlist (p : Project) (modules : List ModuleView) : Type 0 where
+  pub one_source : IsTrue (list_all (has_single_source (netlist_of p modules)) (nodes_of (netlist_of p modules)))
+  pub no_loop : IsTrue (list_all (has_beginning (netlist_of p modules)) (nodes_of (netlist_of p modules)))
   pub known : IsTrue (knows_its_targets (netlist_of p modules))
   pub names_apart : IsTrue (has_names_apart modules)
   pub declared : IsTrue (list_all declares_its_bits modules)

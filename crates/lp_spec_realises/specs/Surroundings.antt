@@ -9,12 +9,13 @@ use Rattle.lp_model.specs.NetlistView.{ModuleView}
 use Rattle.lp_rows.specs.Rows.{ports, IsWithin}
 use Rattle.lp_spec_design.specs.Keys.{Name, Node, Outer, Fixed, Environment}
 use Rattle.lp_spec_design.specs.Netlists.{Structure, first, is_input}
+use Rattle.lp_spec_design.specs.Instances.{Placed}
 use Rattle.lp_spec_design.specs.Graph.{TopOutput}
 use Rattle.lp_spec_design.specs.Intents.{SetNumber, SupplySet, Origin, FromPort, FromSwitch}
 use Rattle.lp_spec_design.specs.Domains.{source_supply, reader_supply}
 use Rattle.lp_spec_design.specs.Settled.{Event, node_at_pin}
 use Rattle.lp_spec_pins.specs.Pins.{FromTop, SupplyNodes, Surroundings, Powered, PinEvent, supply_of_node}
-use Rattle.lp_spec_realises.specs.Projects.{Project, Placed, network_of, port_of_origin}
+use Rattle.lp_spec_realises.specs.Projects.{Project, network_of, port_of_origin}
 use Rattle.lp_spec_realises.specs.Operators.{Placement}
 use Rattle.lp_spec_realises.specs.Tops.{top_port, index_across}
 use Rattle.lp_spec_realises.specs.ProjectNetlists.{netlist_of, port_origins, is_port_origin}
@@ -57,8 +58,8 @@ surroundings_of p w at = record {
 }
 
 -- the netlist, judged by its pins in these surroundings
-abbrev pub powered_of : Project → List ModuleView → ℕ → Placement → Powered
-powered_of p modules fuel at = record { structure = netlist_of p modules; around = surroundings_of p (netlist_of p modules) at; fuel = fuel }
+abbrev pub powered_of : Project → List ModuleView → Placement → Powered
+powered_of p modules at = record { structure = netlist_of p modules; around = surroundings_of p (netlist_of p modules) at }
 
 -- each port origin is a supply, which comes in at its port
 abbrev pub OriginsAreSupplies : Project → Powered → Type 0

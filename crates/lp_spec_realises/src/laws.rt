@@ -1,5 +1,5 @@
 //! Laws about netlists of projects: each is the clause of a function that does nothing.
-ghost use Rattle.std.specs.Prelude.{◌≡◌, ℕ, List, true};
+ghost use Rattle.std.specs.Prelude.{◌≡◌, List, true};
 ghost use Rattle.lp_model.specs.NetlistView.{ModuleView};
 ghost use Rattle.lp_spec_design.specs.Keys.{Name};
 ghost use Rattle.lp_spec_design.specs.Netlists.{Structure};
@@ -17,7 +17,7 @@ pub fn origins_come_in_at_their_ports()
 
 /// In a netlist of a project each port origin is a supply, which comes in at its port.
 pub fn origins_are_supplies()
-    ensures { (p : Project) (m : List ModuleView) (k : ℕ) (at : Placement) → IsProjectNetlist p m k → OriginsAreSupplies p (powered_of p m k at) }
+    ensures { (p : Project) (m : List ModuleView) (at : Placement) → IsProjectNetlist p m → OriginsAreSupplies p (powered_of p m at) }
 {}
 
 /// Of a port that two tops have with one width, a bit is found again on the way back from the other top.
