@@ -1,11 +1,12 @@
 -- Every power and ground pin has exactly one supply (own rule).
 use Rattle.std.specs.Prelude.{Bool, false, ◌&&◌, List, [], ◌∷◌, map, Option, Some, None, is_some, flat_map}
 use Rattle.std.specs.List.{list_all}
-use Rattle.lp_model.specs.NetlistView.{InstanceView, ModuleView}
 use Rattle.lp_model.specs.LibraryView.{PgPinView, CellView}
 use Rattle.lp_spec_design.specs.Keys.{Name, Path, Node}
-use Rattle.lp_spec_design.specs.Netlists.{Structure, module_at, cell_at}
-use Rattle.lp_spec_design.specs.Graph.{sources_of, trail, below}
+use Rattle.lp_spec_design.specs.Netlists.{Structure, cell_at}
+use Rattle.lp_spec_design.specs.Instances.{Placed, cell_instances}
+use Rattle.lp_spec_design.specs.Nodes.{fuel_of}
+use Rattle.lp_spec_design.specs.Graph.{sources_of, trail}
 use Rattle.lp_spec_design.specs.Settled.{node_at_pin}
 use Rattle.lp_spec_pins.specs.Pins.{Powered, is_joined, supply_of_pin, only}
 
@@ -15,21 +16,17 @@ pub record PgPinAt : Type 0 where
   pub instance : Name
   pub pin : Name
 
-abbrev pub pg_pins_of : Path → InstanceView → Option CellView → List PgPinAt
-pg_pins_of p x None = []
-pg_pins_of p x (Some c) = map (λ (g : PgPinView). record { path = p; instance = x.name; pin = g.name }) c.pgs
+abbrev pub pg_pins_of : Placed → Option CellView → List PgPinAt
+pg_pins_of a None = []
+pg_pins_of a (Some c) = map (λ (g : PgPinView). record { path = a.path; instance = a.instance; pin = g.name }) c.pgs
 
-abbrev pub pg_pins_in : Powered → Path → Option ModuleView → List PgPinAt
-pg_pins_in w p None = []
-pg_pins_in w p (Some m) = flat_map (λ (x : InstanceView). pg_pins_of p x (cell_at w.structure p x.name)) m.instances
-
--- all of them, by instance; a design is at most 64 deep
+-- all of them, by cell instance
 abbrev pub pg_pins : Powered → List PgPinAt
-pg_pins w = flat_map (λ p. pg_pins_in w p (module_at w.structure p)) (below w.structure 64 [])
+pg_pins w = flat_map (λ a. pg_pins_of a (cell_at w.structure a.path a.instance)) (cell_instances w.structure)
 
 -- the nodes of a wire, from one of them back to that in which it begins
 abbrev pub wire_of : Powered → Node → List Node
-wire_of w k = k ∷ map (λ step. step.1) (trail w.structure w.fuel k)
+wire_of w k = k ∷ map (λ step. step.1) (trail w.structure (fuel_of w.structure) k)
 
 abbrev pub has_one_source : Structure → Node → Bool
 has_one_source s k = is_some (only (sources_of s k))

@@ -10,6 +10,7 @@ use Rattle.lp_model.specs.declared.intent.RowState.{RowState}
 use Rattle.lp_model.specs.NetlistView.{ModuleView}
 use Rattle.lp_rows.specs.Rows.{row_of, within_in}
 use Rattle.lp_spec_design.specs.Keys.{Name, same_index}
+use Rattle.lp_spec_design.specs.Nodes.{computing}
 use Rattle.lp_spec_design.specs.Settled.{Event, Registers, computed, output}
 use Rattle.lp_spec_design.specs.Domains.{reader_supply}
 use Rattle.lp_spec_design.specs.Graph.{TopOutput}
@@ -34,9 +35,10 @@ abbrev no_registers : Registers
 no_registers p q = X
 
 abbrev judged : Powered
-judged = powered_of (project by_the_block) (written inner) 14 in_block
+judged = powered_of (project by_the_block) (written inner) in_block
 
 supplied : is_supplied judged ≡ true
+unfolding computing
 supplied = refl
 
 -- what the output shows under the intent, and by pins
@@ -48,6 +50,7 @@ shown ev =
     )
 
 alike : map shown (event Zero Zero (On 1000000) ∷ event Zero Zero Off ∷ event Zero One Off ∷ event One X (On 1000000) ∷ event Zero Zero Unknown ∷ []) ≡ (One, One) ∷ (X, X) ∷ (Zero, Zero) ∷ (Zero, Zero) ∷ (X, X) ∷ []
+unfolding computing
 alike = refl
 
 -- ---- inputs go by place
@@ -60,13 +63,16 @@ abbrev bits_of : List ModuleView → Name → List Tern
 bits_of modules n = let at = event_at_pins straight (netlist_of straight modules) first_is_one in at.inputs n (Some 0) ∷ at.inputs n (Some 1) ∷ []
 
 in_the_same_order : bits_of (ports_as 1 0 1 0) (codes "a") ≡ Zero ∷ One ∷ []
+unfolding computing
 in_the_same_order = refl
 
 turned_round : bits_of (ports_as 0 1 1 0) (codes "a") ≡ One ∷ Zero ∷ []
+unfolding computing
 turned_round = refl
 
 -- what is no input of the source is X
 other_input : bits_of (ports_as 1 0 1 0) (codes "b") ≡ X ∷ X ∷ []
+unfolding computing
 other_input = refl
 
 -- ---- events within the rows
@@ -79,6 +85,7 @@ abbrev at : ℕ → ℕ → Event
 at first second = record (event Zero Zero Off) { supplies = λ o. if o == 0 then On first else if o == 1 then On second else On 0 }
 
 within : IsWithinRows tabled (at 1200000 1000000)
+unfolding computing
 within = (2, _, refl, refl)
 
 -- each state is in some row, but not both in one

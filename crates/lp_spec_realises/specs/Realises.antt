@@ -1,16 +1,18 @@
 -- When a netlist realises a source under its power intent (own rule).
-use Rattle.std.specs.Prelude.{ℕ, zero, suc, Bool, true, false, not, ◌&&◌, List, [], ◌∷◌, ◌++◌, map, filter, Option, Some, None, is_some, option_and_then, if◌then◌else◌, bytes_eq, flat_map, slice_get, IsTrue}
+use Rattle.std.specs.Prelude.{ℕ, zero, suc, Bool, true, false, not, ◌&&◌, List, [], ◌∷◌, ◌++◌, map, filter, Option, Some, None, is_some, option_and_then, if◌then◌else◌, bytes_eq, slice_get, IsTrue}
 use Rattle.std.specs.List.{list_any, list_all}
 use Rattle.lp_model.specs.declared.library.Action.{Action}
 use Rattle.lp_model.specs.declared.library.PinUse.{PinUse}
 use Rattle.lp_model.specs.declared.library.PinUse.TheVariants.{Retain}
 use Rattle.lp_model.specs.declared.library.RetClass.TheVariants.{Save, Restore, Both}
 use Rattle.lp_model.specs.declared.supply.SetOrigins.{SetOrigins}
-use Rattle.lp_model.specs.NetlistView.{PortView, InstanceView, ModuleView}
+use Rattle.lp_model.specs.NetlistView.{PortView, ModuleView}
 use Rattle.lp_model.specs.LibraryView.{SwitchedView, PgPinView, PinView, CellView}
 use Rattle.lp_spec_design.specs.Keys.{Name, Path, same_path, same_node, Node}
 use Rattle.lp_spec_design.specs.Netlists.{Structure, module_at, cell_at, is_input}
-use Rattle.lp_spec_design.specs.Graph.{below, numbered, Reader, top_outputs}
+use Rattle.lp_spec_design.specs.Instances.{module_instances, Placed, cell_instances}
+use Rattle.lp_spec_design.specs.Nodes.{fuel_of}
+use Rattle.lp_spec_design.specs.Graph.{numbered, Reader, top_outputs}
 use Rattle.lp_spec_design.specs.Intents.{SupplySet, Origin, FromPort, FromSwitch, Strategy}
 use Rattle.lp_spec_design.specs.Domains.{domain_of, primary_of, way_of, node_before, supply_of_port}
 use Rattle.lp_spec_design.specs.Chains.{Operator, Clamp, Shift}
@@ -20,21 +22,13 @@ use Rattle.lp_spec_pins.specs.Pins.{is_input_pin, is_data, only, input_for}
 use Rattle.lp_spec_network.specs.Pairs.{pairs_of}
 use Rattle.lp_spec_fit.specs.Joins.{Joins, source_joins, clamp_joins, shifter_joins, register_joins, switch_joins}
 use Rattle.lp_spec_fit.specs.Fits.{fits_clamp, fits_shifter, fits_register, fits_switch, one_output, is_iso_data, is_iso_enable, is_switch_pin, retention_pins, switched_pins}
-use Rattle.lp_spec_realises.specs.Projects.{Project, Placed, network_of, port_of_origin, functions_of, on_expression}
+use Rattle.lp_spec_realises.specs.Projects.{Project, network_of, port_of_origin, functions_of, on_expression}
 use Rattle.lp_spec_realises.specs.Tops.{top_ports, node_across}
 use Rattle.lp_spec_realises.specs.ProjectNetlists.{netlist_of, has_origin, IsProjectNetlist}
 use Rattle.lp_spec_realises.specs.Operators.{OperatorAt, all_operators, SwitchAt, all_switches, Placement, placed_operator, placed_switch}
 use Rattle.lp_spec_realises.specs.Ends.{End, AtTop, Nowhere, same_end, wire_end, end_at_pin, output_end, switched_end, intended, some_intended}
 
 -- ---- instances
-
-abbrev pub cells_in : Structure → Path → Option ModuleView → List Placed
-cells_in s p None = []
-cells_in s p (Some m) = map (λ (x : InstanceView). record { path = p; instance = x.name }) (filter (λ (x : InstanceView). is_some (cell_at s p x.name)) m.instances)
-
--- all cell instances; a design is at most 64 deep
-abbrev pub cell_instances : Structure → List Placed
-cell_instances s = flat_map (λ p. cells_in s p (module_at s p)) (below s 64 [])
 
 abbrev pub same_placed : Placed → Placed → Bool
 same_placed a b = bytes_eq a.instance b.instance && same_path a.path b.path
@@ -60,7 +54,7 @@ abbrev pub has_path : List Path → Path → Bool
 has_path all p = list_any (same_path p) all
 
 abbrev pub same_paths : Structure → Structure → Bool
-same_paths s w = list_all (has_path (below w 64 [])) (below s 64 []) && list_all (has_path (below s 64 [])) (below w 64 [])
+same_paths s w = list_all (has_path (module_instances w)) (module_instances s) && list_all (has_path (module_instances s)) (module_instances w)
 
 -- ---- part 2: the cells are the source's, registers with retention those that fit, and one that fits for each operator and each switch
 
@@ -285,12 +279,12 @@ supplies_begin p w at fuel =
 
 -- ---- the whole
 
--- a netlist of the project, for some cell instances that stand for the operators and the switches; the fuel is the number of nodes of the netlist
-pub record Realises (p : Project) (modules : List ModuleView) (fuel : ℕ) : Type 0 where
-  pub netlist : IsProjectNetlist p modules fuel
+-- a netlist of the project, for some cell instances that stand for the operators and the switches
+pub record Realises (p : Project) (modules : List ModuleView) : Type 0 where
+  pub netlist : IsProjectNetlist p modules
   pub placement : Placement
   pub instances : IsTrue (same_paths p.structure (netlist_of p modules))
   pub cells : IsTrue (has_the_cells p (netlist_of p modules) placement)
-  pub wires : IsTrue (begins_right p (netlist_of p modules) placement fuel)
-  pub controls : IsTrue (controls_begin p (netlist_of p modules) placement fuel)
-  pub supplies : IsTrue (supplies_begin p (netlist_of p modules) placement fuel)
+  pub wires : IsTrue (begins_right p (netlist_of p modules) placement (fuel_of (netlist_of p modules)))
+  pub controls : IsTrue (controls_begin p (netlist_of p modules) placement (fuel_of (netlist_of p modules)))
+  pub supplies : IsTrue (supplies_begin p (netlist_of p modules) placement (fuel_of (netlist_of p modules)))

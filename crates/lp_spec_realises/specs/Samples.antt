@@ -9,7 +9,6 @@ use Rattle.lp_model.specs.declared.supply.OriginKind.TheVariants.{Port}
 use Rattle.lp_model.specs.declared.supply.SetOrigins.{SetOrigins}
 use Rattle.lp_model.specs.declared.supply.Supplies.{Supplies}
 use Rattle.lp_model.specs.LibraryView.{CellView}
-use Rattle.lp_spec_design.specs.Keys.{Inner}
 use Rattle.lp_spec_design.specs.Intents.{Intent}
 use Rattle.lp_spec_design.specs.Samples.{plain, with_strategies, isolation}
 use Rattle.lp_spec_network.specs.Samples.{origin}
@@ -40,9 +39,7 @@ project i = record {
   structure = record plain { cells = cells };
   intent = i;
   supplies = supplies (On 1000000 ∷ Off ∷ []) (On 1000000 ∷ []);
-  node = λ k. Inner (codes "en") None [];
   margin = 0;
-  fuel = 8;
   origin_names = codes "VDD" ∷ codes "VDC" ∷ codes "VDE" ∷ codes "VSS" ∷ [];
 }
 

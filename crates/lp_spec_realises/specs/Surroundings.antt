@@ -9,15 +9,16 @@ use Rattle.lp_model.specs.NetlistView.{ModuleView}
 use Rattle.lp_rows.specs.Rows.{ports, IsWithin}
 use Rattle.lp_spec_design.specs.Keys.{Name, Node, Outer, Fixed, Environment}
 use Rattle.lp_spec_design.specs.Netlists.{Structure, first, is_input}
+use Rattle.lp_spec_design.specs.Instances.{Placed}
 use Rattle.lp_spec_design.specs.Graph.{TopOutput}
 use Rattle.lp_spec_design.specs.Intents.{SetNumber, SupplySet, Origin, FromPort, FromSwitch}
 use Rattle.lp_spec_design.specs.Domains.{source_supply, reader_supply}
 use Rattle.lp_spec_design.specs.Settled.{Event, node_at_pin}
-use Rattle.lp_spec_pins.specs.Pins.{SupplyNodes, Surroundings, Powered, PinEvent}
-use Rattle.lp_spec_realises.specs.Projects.{Project, Placed, network_of, port_of_origin}
+use Rattle.lp_spec_pins.specs.Pins.{FromTop, SupplyNodes, Surroundings, Powered, PinEvent, supply_of_node}
+use Rattle.lp_spec_realises.specs.Projects.{Project, network_of, port_of_origin}
 use Rattle.lp_spec_realises.specs.Operators.{Placement}
 use Rattle.lp_spec_realises.specs.Tops.{top_port, index_across}
-use Rattle.lp_spec_realises.specs.ProjectNetlists.{netlist_of, port_origins}
+use Rattle.lp_spec_realises.specs.ProjectNetlists.{netlist_of, port_origins, is_port_origin}
 use Rattle.lp_spec_realises.specs.Ends.{switched_pin}
 
 -- ---- supplies
@@ -57,8 +58,12 @@ surroundings_of p w at = record {
 }
 
 -- the netlist, judged by its pins in these surroundings
-abbrev pub powered_of : Project → List ModuleView → ℕ → Placement → Powered
-powered_of p modules fuel at = record { structure = netlist_of p modules; around = surroundings_of p (netlist_of p modules) at; fuel = fuel }
+abbrev pub powered_of : Project → List ModuleView → Placement → Powered
+powered_of p modules at = record { structure = netlist_of p modules; around = surroundings_of p (netlist_of p modules) at }
+
+-- each port origin is a supply, which comes in at its port
+abbrev pub OriginsAreSupplies : Project → Powered → Type 0
+OriginsAreSupplies p w = (o : ℕ) → is_port_origin p o ≡ true → supply_of_node w (Outer (port_of_origin p o) None) ≡ Some (FromTop (port_of_origin p o))
 
 -- ---- events
 
@@ -81,6 +86,10 @@ event_at_pins p w ev = record {
   inputs = λ n i. input_across p w ev n i;
   supplies = λ n. option_map_or ev.supplies (origin_of_port p n) Unknown;
 }
+
+-- each port origin has its state at its port
+abbrev pub OriginsComeIn : Project → Event → PinEvent → Type 0
+OriginsComeIn p ev at = (o : ℕ) → is_port_origin p o ≡ true → at.supplies (port_of_origin p o) ≡ ev.supplies o
 
 -- the same inputs, and each port origin's state at its port
 abbrev pub SameEvents : Project → List ModuleView → List Event → List PinEvent → Type 0
