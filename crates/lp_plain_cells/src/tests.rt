@@ -1,4 +1,4 @@
-use crate::is_plain;
+use crate::loses_with_supply;
 use lp_expr::{Expr, read_liberty};
 use lp_model::{Cell, Direction, PgKind, PgPin, Pin, PinUse, Roles, StateGroup, StateKind};
 use lp_text::Names;
@@ -142,7 +142,7 @@ fn cell(rt: &impl Abort, alloc: Global, names: &mut Names, row: &Case) -> Result
 }
 
 #[test]
-fn cells_with_one_power_and_one_ground(rt: HostRuntime) -> Result<(), Fail> {
+fn cells_that_lose_with_their_supply(rt: HostRuntime) -> Result<(), Fail> {
     let down = Some("!VDD + VSS");
     let rows = [
         case_of("a gate with wells", WITH_WELLS, down, None, true),
@@ -164,12 +164,12 @@ fn cells_with_one_power_and_one_ground(rt: HostRuntime) -> Result<(), Fail> {
             Some("!VDD"),
             false,
         ),
-        case_of("ground as power", GROUND_FIRST, down, None, false),
+        case_of("related pins are not asked", GROUND_FIRST, down, None, true),
     ];
     let mut names = Names::new(rt.alloc())?;
     for row in &rows {
         let cell = cell(&rt, rt.alloc(), &mut names, row)?;
-        assert_eq!(rt; is_plain(&names, &cell), row.plain, "{}", row.what);
+        assert_eq!(rt; loses_with_supply(&names, &cell), row.plain, "{}", row.what);
     }
     Ok(())
 }
