@@ -9,14 +9,17 @@ use Rattle.lp_model.specs.declared.intent.StrategyKind.TheVariants.{Isolation, S
 use Rattle.lp_model.specs.LibraryView.{CellView}
 use Rattle.lp_spec_design.specs.Keys.{Path}
 use Rattle.lp_spec_design.specs.Netlists.{is_input, cell_at}
+use Rattle.lp_spec_design.specs.Instances.{Placed, cell_instances}
+use Rattle.lp_spec_design.specs.Nodes.{fuel_of}
 use Rattle.lp_spec_design.specs.Graph.{numbered}
 use Rattle.lp_spec_design.specs.Intents.{SetNumber, Element, AtInstance, AtCell, AtPort, AtBit, Strategy, same_set}
 use Rattle.lp_spec_design.specs.Domains.{BoundaryBit, boundary, node_before, domain_of, same_domain}
 use Rattle.lp_spec_design.specs.Winners.{Crossing, crossing, side_domain, names, applying, winner, rank, is_tied, splits, same_kind, same_supply}
-use Rattle.lp_spec_design.specs.Chains.{Operator, Clamp, Shift, side_part, rail, rail_after}
+use Rattle.lp_spec_design.specs.Chains.{Operator, Clamp, Shift, side_part, rail_after}
 use Rattle.lp_spec_design.specs.Registers.{retains, retention_rank, retention_winner}
-use Rattle.lp_spec_realises.specs.Projects.{Project, Placed, network_of}
-use Rattle.lp_spec_realises.specs.Realises.{cell_instances, cell_of}
+use Rattle.lp_spec_design.specs.Settled.{rail_of}
+use Rattle.lp_spec_realises.specs.Projects.{Project, network_of, design_of}
+use Rattle.lp_spec_realises.specs.Realises.{cell_of}
 use Rattle.lp_spec_faults.specs.Lines.{Line}
 
 -- ---- places
@@ -48,7 +51,7 @@ abbrev pub sides_with_strategies : Project → List StrategyAt
 sides_with_strategies p = flat_map (λ a. map (λ t. record { place = a; number = t.0; strategy = t.1 }) (numbered 0 p.intent.strategies)) (all_sides p)
 
 abbrev pub crossing_of : Project → BoundaryBit → Crossing
-crossing_of p b = crossing p.structure p.intent p.fuel b
+crossing_of p b = crossing p.structure p.intent (fuel_of p.structure) b
 
 abbrev pub applying_at : Project → StrategyAt → List (ℕ × Strategy)
 applying_at p x = applying (network_of p) p.intent x.strategy.kind x.place.side (crossing_of p x.place.bit)
@@ -178,7 +181,7 @@ shift_target p = record { places = sides_with_strategies p; test = λ (x : Strat
 -- ---- the part of a side, with the supply that reaches it
 
 abbrev pub rail_to_bit : Project → BoundaryBit → Option SetNumber
-rail_to_bit p b = rail p.structure (network_of p) p.intent p.fuel (node_before p.structure b)
+rail_to_bit p b = rail_of (design_of p) (node_before p.structure b)
 
 abbrev pub behind_side : Project → Side → BoundaryBit → Option SetNumber
 behind_side p side b = rail_after (rail_to_bit p b) (side_part (network_of p) p.intent side (crossing_of p b) (rail_to_bit p b))

@@ -1,5 +1,5 @@
 -- What is promised of the texts that are written for inputs without fault.
-use Rattle.std.specs.Prelude.{◌≡◌, ℕ, suc, true, List, [], ◌∷◌, codes}
+use Rattle.std.specs.Prelude.{◌≡◌, ℕ, true, List, [], ◌∷◌, codes}
 use Rattle.lp_model.specs.NetlistView.{ModuleView}
 use Rattle.lp_model.specs.LibraryView.{CellView}
 use Rattle.lp_spec_pins.specs.Pins.{Powered}
@@ -18,7 +18,7 @@ report_text = codes "lpinsert report 1\ntotal iso 0 shift 0 ret 0 switch 0\n"
 
 -- a netlist that is judged by its pins, among the supplies of a design
 abbrev pub judged : Flat → ModuleView → Powered
-judged f written = record { structure = record { modules = written ∷ []; cells = f.cells }; around = surroundings f; fuel = suc f.nodes }
+judged f written = record { structure = record { modules = written ∷ []; cells = f.cells }; around = surroundings f }
 
 -- the texts denote this design
 pub record HasDesign (inputs : Inputs) : Type 0 where

@@ -3,6 +3,7 @@ use Rattle.std.proofs.Common.{◌≡◌, List, [], ◌∷◌, refl}
 use Rattle.std.specs.Prelude.{codes}
 use Rattle.lp_model.specs.NetlistView.{InstanceView, ModuleView}
 use Rattle.lp_spec_design.specs.Keys.{Name}
+use Rattle.lp_spec_design.specs.Nodes.{computing}
 use Rattle.lp_spec_pins.proofs.Clamped.{joined}
 use Rattle.lp_spec_written.specs.Supplies.{wire}
 use Rattle.lp_spec_written.specs.Shared.{shared}
@@ -39,8 +40,10 @@ equal_below = refl
 
 -- another cell below makes both levels differ
 other_below : shared (pairs_of (codes "BUF")) ≡ pairs_of (codes "BUF")
+unfolding computing
 other_below = refl
 
 -- a block with a clamp, and one without
 nothing_shared : shared clamped_modules ∷ shared twins_modules ∷ [] ≡ clamped_modules ∷ twins_modules ∷ []
+unfolding computing
 nothing_shared = refl
