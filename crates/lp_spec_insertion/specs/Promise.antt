@@ -1,5 +1,5 @@
 -- What is promised of the texts that are written for inputs without fault.
-use Rattle.std.specs.Prelude.{◌≡◌, ℕ, suc, true, List, [], ◌∷◌, codes}
+use Rattle.std.specs.Prelude.{◌≡◌, ℕ, true, List, [], ◌∷◌, codes}
 use Rattle.lp_model.specs.NetlistView.{ModuleView}
 use Rattle.lp_model.specs.LibraryView.{CellView}
 use Rattle.lp_spec_pins.specs.Pins.{Powered}

@@ -12,7 +12,9 @@ ghost use Rattle.lp_spec_pins.specs.Runs.{RunsOnceByPins};
 
 /// An output whose power-down function is not 0 is X.
 pub fn lost_where_powered_down()
-    ensures { (w : Powered) (B : PinAssignment) (registers : RegisterStates) (p : Path) (x : Name) (c : CellView) (q : PinView) → is_up w B p x c q.power_down ≡ false → output_at w B registers p x c (Some q) ≡ X }
+    ensures { (w : Powered) (B : PinAssignment) (registers : RegisterStates) (p : Path) (x : Name) (c : CellView) (q : PinView)
+        → is_up w B p x c q.power_down ≡ false
+        → output_at w B registers p x c (Some q) ≡ X }
 {}
 
 /// Where all that occurs in the equations by pins has an order, exactly one assignment settles.
@@ -23,5 +25,6 @@ pub fn settles_once_by_pins()
 /// Where all that occurs in the equations by pins has an order, there is exactly one run of the netlist over a list of
 /// events, from what settled before them, if anything did, and from the states of its registers.
 pub fn runs_once_by_pins()
-    ensures { (w : Powered) (last : Option PinAssignment) (states : States) (events : List PinEvent) → HasOrder keys (reads w) → RunsOnceByPins w last states events }
+    ensures { (w : Powered) (last : Option PinAssignment) (states : States) (events : List PinEvent)
+        → HasOrder keys (reads w) → RunsOnceByPins w last states events }
 {}
