@@ -6,7 +6,8 @@ use Rattle.lp_model.specs.declared.netlist.Direction.TheVariants.{Input, Output}
 use Rattle.lp_model.specs.NetlistView.{BitView, PortView, ConnectionsView, InstanceView, AssignView, ModuleView}
 use Rattle.lp_model.specs.LibraryView.{PgPinView, CellView, PinView}
 use Rattle.lp_spec_design.specs.Keys.{Name, Path, Node, Inner, Outer, Fixed, Way, PortBit, AssignBit, Source, CellPin, SwitchedPin, Environment, From, same_node, same_way, same_index}
-use Rattle.lp_spec_design.specs.Netlists.{Structure, first, module_named, cell_named, module_at, indices, node_of, connected, is_input}
+use Rattle.lp_spec_design.specs.Netlists.{Structure, first, module_named, cell_named, module_at, cell_at, instance_named, indices, node_of, connected, is_input}
+use Rattle.lp_spec_design.specs.Instances.{Placed, cell_instances}
 
 -- each bit of a port with what it is connected to, in order from the left; what is left over on one side is not joined
 abbrev pub pairs : {A B : Type 0} → List A → List B → List (A × B)
@@ -143,19 +144,6 @@ pub data Reader : Type 0 where
   InputPin : Path → Name → Name → Reader
   TopOutput : Name → Option ℕ → Reader
 
--- the module instances of a module, by their paths
-abbrev pub children : Structure → Path → List Path
-children s p = by (module_at s p)
-  where
-    by : Option ModuleView → List Path
-    by None = []
-    by (Some m) = map (λ x. x.name ∷ p) (filter (λ x. is_some (module_named s x.target)) m.instances)
-
--- an instance and those below it; the depth is at most 64
-abbrev pub below : Structure → ℕ → Path → List Path
-below s zero p = []
-below s (suc depth) p = p ∷ flat_map (below s depth) (children s p)
-
 -- the node at an input pin of a cell instance, none where the pin is open; a pin has one bit
 abbrev pub pin_node : Path → Name → ConnectionsView → Option Node
 pin_node p q cs = by (connected [] q cs)
@@ -164,17 +152,14 @@ pin_node p q cs = by (connected [] q cs)
     by [] = None
     by (b ∷ rest) = Some (node_of p b)
 
--- the input pins of the cell instances of an instance, each with its node
-abbrev pub pins_of : Structure → Path → List (Reader × Node)
-pins_of s p = by (module_at s p)
-  where
-    by_cell : InstanceView → Option CellView → List (Reader × Node)
-    by_cell x None = []
-    by_cell x (Some c) = some_of (λ q. option_and_then (λ k. Some (InputPin p x.name q.name, k)) (pin_node p q.name x.connections)) (filter (λ q. not (is_output_pin q)) c.pins)
+-- the input pins of a cell, each with what is connected to it in the instance
+abbrev pub pins_in : Placed → Option InstanceView → Option CellView → List (Reader × Node)
+pins_in a (Some x) (Some c) = some_of (λ q. option_and_then (λ k. Some (InputPin a.path a.instance q.name, k)) (pin_node a.path q.name x.connections)) (filter (λ q. not (is_output_pin q)) c.pins)
+pins_in a _ _ = []
 
-    by : Option ModuleView → List (Reader × Node)
-    by None = []
-    by (Some m) = flat_map (λ x. by_cell x (cell_named s x.target)) m.instances
+-- the input pins of a cell instance that are connected, each with its node
+abbrev pub pins_of : Structure → Placed → List (Reader × Node)
+pins_of s a = pins_in a (option_and_then (λ m. instance_named m a.instance) (module_at s a.path)) (cell_at s a.path a.instance)
 
 -- the bits of the top's outputs, each with the node on the environment's side
 abbrev pub top_outputs : Structure → List (Reader × Node)
@@ -184,9 +169,9 @@ top_outputs s = by (module_at s [])
     by None = []
     by (Some m) = flat_map (λ port. map (λ i. (TopOutput port.name i, Outer port.name i)) (indices port.range)) (filter (λ port. not (is_input port)) m.ports)
 
--- all readers, with their nodes: cell input pins by instance and then top outputs
+-- all readers, with their nodes: cell input pins by cell instance and then top outputs
 abbrev pub readers : Structure → List (Reader × Node)
-readers s = flat_map (pins_of s) (below s 64 []) ++ top_outputs s
+readers s = flat_map (pins_of s) (cell_instances s) ++ top_outputs s
 
 -- a reader is reached by a way
 abbrev pub passes : Structure → ℕ → Way → Node → Bool

@@ -10,8 +10,7 @@ ghost use Rattle.lp_spec_design.specs.Winners.{Crossing, IsIn, applying, rank, w
 ghost use Rattle.lp_spec_design.specs.Chains.{Operator, Clamp, by_rule, clamp_of, part, rail_after, target};
 ghost use Rattle.lp_spec_settling.specs.Settling.{IsOrder, Covers, SettlesOnce};
 ghost use Rattle.lp_spec_design.specs.Keys.{Node};
-ghost use Rattle.lp_spec_design.specs.Chains.{rail};
-ghost use Rattle.lp_spec_design.specs.Settled.{Assignment, Design, Event, HasFuel, Key, Registers, SettlesIntent, active, at, equation, set_on, through};
+ghost use Rattle.lp_spec_design.specs.Settled.{Assignment, Design, Event, HasFuel, Key, Registers, rail_of, SettlesIntent, active, at, equation, set_on, through};
 ghost use Rattle.lp_spec_design.specs.Reads.{keys, reads};
 ghost use Rattle.lp_spec_design.specs.Registers.{States, RunsOnce};
 
@@ -55,5 +54,5 @@ pub fn runs_once()
 
 /// A node whose rail is not on is X in every assignment that settles under intent.
 pub fn lost_where_the_rail_is_off()
-    ensures { (d : Design) (event : Event) (registers : Registers) (A : Assignment) → SettlesIntent d event registers A → HasFuel d → (k : Node) (r : SetNumber) → rail d.structure d.network d.intent d.fuel k ≡ Some r → set_on d.network A (Some r) ≡ false → at A k ≡ X }
+    ensures { (d : Design) (event : Event) (registers : Registers) (A : Assignment) → SettlesIntent d event registers A → HasFuel d → (k : Node) (r : SetNumber) → rail_of d k ≡ Some r → set_on d.network A (Some r) ≡ false → at A k ≡ X }
 {}

@@ -7,7 +7,7 @@ use Rattle.lp_model.specs.declared.intent.StrategyKind.TheVariants.{Isolation, S
 use Rattle.lp_model.specs.declared.supply.OriginKind.TheVariants.{Port, Switch}
 use Rattle.lp_model.specs.NetlistView.{NetBit, ConstBit, ByName, ByPosition, ConnectionsView, ModuleView}
 use Rattle.lp_spec_design.specs.Keys.{Path, Inner}
-use Rattle.lp_spec_design.specs.Graph.{InputPin}
+use Rattle.lp_spec_design.specs.Nodes.{computing}
 use Rattle.lp_spec_design.specs.Intents.{Element, AtInstance, AtBit, Strategy, Intent}
 use Rattle.lp_spec_design.specs.Samples.{plain, top, core, to, registered, with_strategies, isolation, shifting, by_supply, retaining}
 use Rattle.lp_spec_network.specs.Samples.{origin}
@@ -48,6 +48,7 @@ is_refused p = by (first_of (not_boundary p))
 
 -- by the block's domain and by that of its parent; the top has no side of the block's
 block_without_ports : map is_refused (portless (names_in 1 block) ∷ portless (names_in 0 block) ∷ portless (names_in 1 []) ∷ portless (names_in 0 []) ∷ []) ≡ false ∷ false ∷ true ∷ false ∷ []
+unfolding computing
 block_without_ports = refl
 
 -- where one domain has both, the block is no boundary instance
@@ -55,6 +56,7 @@ abbrev in_one_domain : Intent → Intent
 in_one_domain i = record i { domains = record { elements = [] ∷ []; primary = Some 0; isolation = None; retention = None } ∷ [] }
 
 no_boundary_there : map is_refused (portless (in_one_domain (names_in 0 block)) ∷ project (in_one_domain (names_in 0 block)) ∷ []) ≡ true ∷ true ∷ []
+unfolding computing
 no_boundary_there = refl
 
 -- ---- F51: the first two of three
@@ -71,9 +73,11 @@ abbrev tie_of : Project → Option (ℕ × ℕ)
 tie_of p = pair_in p (first_of (tied p))
 
 ties_on_a_side : map (λ i. tie_of (project i)) (with_strategies (isolation 1 None Outputs ∷ the_bit ∷ shifting 1 0 ∷ the_bit ∷ the_bit ∷ []) ∷ with_strategies (shifting 1 0 ∷ the_bit ∷ the_bit ∷ shifting 1 0 ∷ []) ∷ []) ≡ Some (1, 3) ∷ Some (0, 3) ∷ []
+unfolding computing
 ties_on_a_side = refl
 
 ties_on_a_register : tie_of (record (project (with_strategies (retaining (Some (AtInstance block ∷ [])) ∷ retaining None ∷ retaining None ∷ retaining (Some (AtInstance block ∷ [])) ∷ []))) { structure = registered }) ≡ Some (0, 3)
+unfolding computing
 ties_on_a_register = refl
 
 -- ---- F53 to F55: what drives
@@ -84,6 +88,7 @@ driven_by p (PinReads r k) = (false, driver_read p (PinReads r k))
 
 -- the clamp and the buffer behind it are driven by the block's inverter, that by the top's input; the top's output by the buffer
 drivers : map (driven_by (project by_the_block)) (all_readings (project by_the_block)) ≡ (true, OfPin block (codes "g") (codes "Y")) ∷ (false, OfPin block (codes "g") (codes "Y")) ∷ (false, OfInput (codes "a") None) ∷ (false, OfPin [] (codes "b") (codes "Y")) ∷ []
+unfolding computing
 drivers = refl
 
 -- a constant at the block's input, and an open input
@@ -91,6 +96,7 @@ abbrev fixed : ConnectionsView → Project
 fixed u = record (project (with_strategies [])) { structure = record plain { modules = led u ∷ core ∷ [] } }
 
 no_drivers : map (λ u. driver_of (fixed u) (Inner (codes "i") None block)) (ByPosition ((ConstBit true ∷ []) ∷ (NetBit (codes "n") ∷ []) ∷ []) ∷ ByPosition ([] ∷ (NetBit (codes "n") ∷ []) ∷ []) ∷ []) ≡ OfNothing ∷ OfNothing ∷ []
+unfolding computing
 no_drivers = refl
 
 -- ---- F56, F57 and F65: the strategies of a side
@@ -105,12 +111,14 @@ abbrev between : Project
 between = lower (with_strategies (shifting 1 0 ∷ by_supply 2 (isolation 1 None Outputs) ∷ []))
 
 two_shifters_of : strategies_at between (first_of (two_shifters between)) ≡ (Some 1, Some 0)
+unfolding computing
 two_shifters_of = refl
 
 abbrev other_input : Project
 other_input = lower (with_strategies (the_bit ∷ record (shifting 1 0) { input = Some 2 } ∷ []))
 
 shifter_of : strategies_at other_input (first_of (shift_supply other_input)) ≡ (Some 0, Some 1)
+unfolding computing
 shifter_of = refl
 
 -- ---- F59: a control of a strategy and of a switch, both from a lower supply, in the order of the commands
@@ -125,9 +133,11 @@ abbrev first_control : Project → ℕ → Option (Asks × Option ℕ)
 first_control p switch = option_and_then (λ (x : ControlRead). Some (x.asks, row_of_control p x)) (first_of (control_level p (λ o. switch)))
 
 strategy_first : first_control (low_controls 3) 7 ≡ Some (StrategyAsks 0, Some 0)
+unfolding computing
 strategy_first = refl
 
 switch_first : first_control (low_controls 7) 3 ≡ Some (SwitchAsks 1, Some 0)
+unfolding computing
 switch_first = refl
 
 in_their_order : in_command_order ((4, codes "a") ∷ (0, codes "b") ∷ (2, codes "c") ∷ []) ≡ codes "b" ∷ codes "c" ∷ codes "a" ∷ []
@@ -142,4 +152,5 @@ abbrev without_clamps : Project
 without_clamps = record (project (with_strategies (shifting 1 0 ∷ isolation 1 None Outputs ∷ []))) { structure = record plain { cells = inverter ∷ buffer ∷ [] } }
 
 clamp_by_strategy : option_and_then (entry_strategy without_clamps) (first_of (no_cell without_clamps any_cell)) ≡ Some 1
+unfolding computing
 clamp_by_strategy = refl

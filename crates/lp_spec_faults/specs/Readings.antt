@@ -6,25 +6,25 @@ use Rattle.lp_model.specs.declared.intent.StrategyKind.TheVariants.{Isolation, S
 use Rattle.lp_model.specs.declared.library.Action.{Action}
 use Rattle.lp_model.specs.declared.side.Side.TheVariants.{Upper, Lower}
 use Rattle.lp_model.specs.declared.supply.SetOrigins.{SetOrigins}
-use Rattle.lp_model.specs.NetlistView.{PortView, NetView, ModuleView}
 use Rattle.lp_model.specs.LibraryView.{CellView}
-use Rattle.lp_spec_design.specs.Keys.{Name, Path, Node, Inner, Outer, Source, CellPin, Environment}
-use Rattle.lp_spec_design.specs.Netlists.{Structure, module_at, indices}
-use Rattle.lp_spec_design.specs.Graph.{source_of, trail, beginning, some_of, numbered, Reader, readers, below}
+use Rattle.lp_spec_design.specs.Keys.{Name, Path, Node, Outer, Source, CellPin, Environment}
+use Rattle.lp_spec_design.specs.Instances.{Placed, cell_instances}
+use Rattle.lp_spec_design.specs.Nodes.{fuel_of, inner_nodes}
+use Rattle.lp_spec_design.specs.Graph.{source_of, trail, beginning, some_of, numbered, Reader, readers}
 use Rattle.lp_spec_design.specs.Intents.{SetNumber, Strategy}
 use Rattle.lp_spec_design.specs.Domains.{BoundaryBit, node_before, reader_supply, primary_of}
 use Rattle.lp_spec_design.specs.Winners.{winner}
-use Rattle.lp_spec_design.specs.Chains.{Operator, Clamp, Shift, rail, rail_after, bit_of_way}
+use Rattle.lp_spec_design.specs.Chains.{Operator, Clamp, Shift, rail_after, bit_of_way}
 use Rattle.lp_spec_design.specs.Registers.{retention, retention_winner}
-use Rattle.lp_spec_design.specs.Settled.{Key, At}
+use Rattle.lp_spec_design.specs.Settled.{Key, At, rail_of}
 use Rattle.lp_spec_design.specs.Reads.{reads, same_key}
 use Rattle.lp_rows.specs.Leaks.{leaks_in}
 use Rattle.lp_rows.specs.Rows.{lower_in}
 use Rattle.lp_spec_network.specs.Views.{first_row, lower_sets, leaking_sets}
 use Rattle.lp_spec_fit.specs.PowerDown.{is_unfit_power}
-use Rattle.lp_spec_realises.specs.Projects.{Project, Placed, network_of, design_of}
+use Rattle.lp_spec_realises.specs.Projects.{Project, network_of, design_of}
 use Rattle.lp_spec_realises.specs.Operators.{OperatorAt, all_operators, chain_of, SwitchAt, all_switches}
-use Rattle.lp_spec_realises.specs.Realises.{cell_instances, cell_of, primary_at}
+use Rattle.lp_spec_realises.specs.Realises.{cell_of, primary_at}
 use Rattle.lp_spec_realises.specs.Controls.{reads_too_low, power_of, power_of_rail}
 use Rattle.lp_spec_realises.specs.Implements.{Lists, strategy_of, operator_path, operator_chosen, switch_chosen, register_chosen}
 use Rattle.lp_spec_faults.specs.Lines.{Line}
@@ -68,7 +68,7 @@ reading_supply p (PinReads r k) = reader_supply p.intent r
 -- the rail that reaches it: behind the operators before a clamp, and that of a reader's node
 abbrev pub reaching_rail : Project → Reading → Option SetNumber
 reaching_rail p (ClampReads o) = rail_after (rail_to_bit p o.bit) (take o.number (chain_of p o.bit))
-reaching_rail p (PinReads r k) = rail p.structure (network_of p) p.intent p.fuel k
+reaching_rail p (PinReads r k) = rail_of (design_of p) k
 
 -- what drives it in the end, the first field of F53, F54 and F55: a pin of a cell instance, a bit of a top input, or nothing, also where the way begins at a constant
 pub data Driver : Type 0 where
@@ -82,7 +82,7 @@ driver_by (Outer n j) (Some Environment) = OfInput n j
 driver_by k _ = OfNothing
 
 abbrev pub driver_of : Project → Node → Driver
-driver_of p k = by (beginning k (trail p.structure p.fuel k))
+driver_of p k = by (beginning k (trail p.structure (fuel_of p.structure) k))
   where
     by : Node → Driver
     by j = driver_by j (source_of p.structure j)
@@ -114,7 +114,7 @@ is_forbidden p kind b =
 
 -- the boundary bits on the way to a node, the last one first
 abbrev pub bits_before : Project → Node → List BoundaryBit
-bits_before p k = some_of (λ step. bit_of_way p.structure p.intent step.0) (trail p.structure p.fuel k)
+bits_before p k = some_of (λ step. bit_of_way p.structure p.intent step.0) (trail p.structure (fuel_of p.structure) k)
 
 abbrev pub bits_of_reading : Project → Reading → List BoundaryBit
 bits_of_reading p (ClampReads o) = o.bit ∷ []
@@ -141,11 +141,11 @@ uncovered_level p = record { places = all_readings p; test = is_level_uncovered 
 -- ---- F53 UncoveredIsolation: the rail of a reader may be off while the reader is on, and no bit on the way has a winner without isolation
 
 abbrev pub is_leaking : Project → Reader × Node → Bool
-is_leaking p r = of_both (leaking_sets p.supplies) (rail p.structure (network_of p) p.intent p.fuel r.1) (reader_supply p.intent r.0)
+is_leaking p r = of_both (leaking_sets p.supplies) (rail_of (design_of p) r.1) (reader_supply p.intent r.0)
 
 -- the first row that shows a leak
 abbrev pub row_of_leak : Project → Reader × Node → Option ℕ
-row_of_leak p r = by (power_of p (rail p.structure (network_of p) p.intent p.fuel r.1)) (power_of p (reader_supply p.intent r.0))
+row_of_leak p r = by (power_of p (rail_of (design_of p) r.1)) (power_of p (reader_supply p.intent r.0))
   where
     by : Option ℕ → Option ℕ → Option ℕ
     by (Some a) (Some b) = first_row p.supplies (λ row. leaks_in p.supplies row a b)
@@ -250,19 +250,9 @@ reached reads (suc steps) found = with_more (reached reads steps found)
 abbrev pub is_looped : Project → ℕ → Node → Bool
 is_looped p steps k = list_any (same_key (At k)) (reached (reads (design_of p)) steps (reads (design_of p) (At k)))
 
--- nodes in their order: by instance, then ports and then nets, from the left bit to the right one
-abbrev pub nodes_in : Path → Option ModuleView → List Node
-nodes_in path None = []
-nodes_in path (Some m) =
-    flat_map (λ (x : PortView). map (λ i. Inner x.name i path) (indices x.range)) m.ports
-    ++ flat_map (λ (x : NetView). map (λ i. Inner x.name i path) (indices x.range)) m.nets
-
-abbrev pub all_nodes : Structure → List Node
-all_nodes s = flat_map (λ path. nodes_in path (module_at s path)) (below s 64 [])
-
 -- the steps are the number of nodes and origins
 abbrev pub loop : Project → ℕ → Line Node
-loop p steps = record { places = all_nodes p.structure; test = is_looped p steps }
+loop p steps = record { places = inner_nodes p.structure; test = is_looped p steps }
 
 -- ---- F60 NoCell: no cell fits an operator, a register or a switch
 

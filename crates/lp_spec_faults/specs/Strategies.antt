@@ -10,14 +10,17 @@ use Rattle.lp_model.specs.declared.intent.StrategyKind.TheVariants.{Isolation, S
 use Rattle.lp_model.specs.LibraryView.{CellView}
 use Rattle.lp_spec_design.specs.Keys.{Path, same_path}
 use Rattle.lp_spec_design.specs.Netlists.{first, is_input, cell_at}
-use Rattle.lp_spec_design.specs.Graph.{numbered, below}
+use Rattle.lp_spec_design.specs.Instances.{Placed, module_instances, cell_instances}
+use Rattle.lp_spec_design.specs.Nodes.{fuel_of}
+use Rattle.lp_spec_design.specs.Graph.{numbered}
 use Rattle.lp_spec_design.specs.Intents.{SetNumber, Element, AtInstance, AtCell, AtPort, AtBit, Strategy, same_set}
 use Rattle.lp_spec_design.specs.Domains.{BoundaryBit, is_boundary, boundary, node_before, domain_of, same_domain}
 use Rattle.lp_spec_design.specs.Winners.{Crossing, crossing, side_domain, names, applying, winner, rank, is_tied, splits, same_kind, same_supply}
-use Rattle.lp_spec_design.specs.Chains.{Operator, Clamp, Shift, side_part, rail, rail_after}
+use Rattle.lp_spec_design.specs.Chains.{Operator, Clamp, Shift, side_part, rail_after}
 use Rattle.lp_spec_design.specs.Registers.{retains, retention_rank, retention_winner}
-use Rattle.lp_spec_realises.specs.Projects.{Project, Placed, network_of}
-use Rattle.lp_spec_realises.specs.Realises.{cell_instances, cell_of}
+use Rattle.lp_spec_design.specs.Settled.{rail_of}
+use Rattle.lp_spec_realises.specs.Projects.{Project, network_of, design_of}
+use Rattle.lp_spec_realises.specs.Realises.{cell_of}
 use Rattle.lp_spec_faults.specs.Lines.{Line}
 
 -- ---- places
@@ -49,7 +52,7 @@ abbrev pub sides_with_strategies : Project → List StrategyAt
 sides_with_strategies p = flat_map (λ a. map (λ t. record { place = a; number = t.0; strategy = t.1 }) (numbered 0 p.intent.strategies)) (all_sides p)
 
 abbrev pub crossing_of : Project → BoundaryBit → Crossing
-crossing_of p b = crossing p.structure p.intent p.fuel b
+crossing_of p b = crossing p.structure p.intent (fuel_of p.structure) b
 
 abbrev pub applying_at : Project → StrategyAt → List (ℕ × Strategy)
 applying_at p x = applying (network_of p) p.intent x.strategy.kind x.place.side (crossing_of p x.place.bit)
@@ -118,7 +121,7 @@ has_side p d [] = is_of_domain p d []
 has_side p d (x ∷ q) = is_of_domain p d (x ∷ q) || is_of_domain p d q
 
 abbrev pub boundary_instances : Project → List Path
-boundary_instances p = filter (is_boundary p.intent) (below p.structure 64 [])
+boundary_instances p = filter (is_boundary p.intent) (module_instances p.structure)
 
 -- a boundary instance, which may have no ports, or a port or a bit of one
 abbrev pub names_side : Project → ElementAt → Bool
@@ -203,7 +206,7 @@ shift_target p = record { places = sides_with_strategies p; test = λ (x : Strat
 -- ---- the part of a side, with the supply that reaches it
 
 abbrev pub rail_to_bit : Project → BoundaryBit → Option SetNumber
-rail_to_bit p b = rail p.structure (network_of p) p.intent p.fuel (node_before p.structure b)
+rail_to_bit p b = rail_of (design_of p) (node_before p.structure b)
 
 abbrev pub behind_side : Project → Side → BoundaryBit → Option SetNumber
 behind_side p side b = rail_after (rail_to_bit p b) (side_part (network_of p) p.intent side (crossing_of p b) (rail_to_bit p b))

@@ -20,7 +20,7 @@ report_text = codes "lpinsert report 1\ntotal iso 0 shift 0 ret 0 switch 0\n"
 
 -- a netlist that is judged by its pins, among the supplies of a design
 abbrev pub judged : Flat → ModuleView → Powered
-judged f written = record { structure = record { modules = written ∷ []; cells = f.cells }; around = surroundings f; fuel = suc f.nodes }
+judged f written = record { structure = record { modules = written ∷ []; cells = f.cells }; around = surroundings f }
 
 -- the texts denote this design
 pub record HasDesign (inputs : Inputs) : Type 0 where

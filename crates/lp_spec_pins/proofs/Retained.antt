@@ -15,6 +15,7 @@ use Rattle.lp_model.specs.declared.library.StateKind.TheVariants.{Flop}
 use Rattle.lp_model.specs.NetlistView.{ByName, ModuleView}
 use Rattle.lp_model.specs.LibraryView.{ExprView, PinView, CellView}
 use Rattle.lp_spec_design.specs.Keys.{Name}
+use Rattle.lp_spec_design.specs.Nodes.{computing}
 use Rattle.lp_spec_pins.specs.Pins.{Surroundings, Powered, PinAssignment, PinEvent, output_by_pins, computed_by_pins}
 use Rattle.lp_spec_design.specs.Registers.{States}
 use Rattle.lp_spec_pins.specs.Registers.{states_after_by_pins}
@@ -88,7 +89,7 @@ around = record {
 }
 
 abbrev written : Powered
-written = record { structure = record { modules = outer ∷ inner ∷ []; cells = flop ∷ retaining_flop ∷ switch ∷ cells }; around = around; fuel = 12 }
+written = record { structure = record { modules = outer ∷ inner ∷ []; cells = flop ∷ retaining_flop ∷ switch ∷ cells }; around = around }
 
 abbrev event_with : SupplyState → Tern → Tern → Tern → Tern → SupplyState → PinEvent
 event_with spare ck en sv rs block = record {
@@ -130,40 +131,52 @@ abbrev restoring : PinEvent
 restoring = event Zero One Zero One (On 1000000)
 
 first : y idle X ≡ X
+unfolding computing
 first = refl
 
 after_first : next None idle X X ≡ (X, X)
+unfolding computing
 after_first = refl
 
 second : y clocked X ≡ X
+unfolding computing
 second = refl
 
 after_second : next (Some (settled idle X)) clocked X X ≡ (One, X)
+unfolding computing
 after_second = refl
 
 third : y saving One ≡ One
+unfolding computing
 third = refl
 
 after_third : next (Some (settled clocked X)) saving One X ≡ (One, One)
+unfolding computing
 after_third = refl
 
 fourth : y off One ≡ Zero
+unfolding computing
 fourth = refl
 
 after_fourth : next (Some (settled saving One)) off One One ≡ (X, One)
+unfolding computing
 after_fourth = refl
 
 fifth : y restoring X ≡ Zero
+unfolding computing
 fifth = refl
 
 after_fifth : next (Some (settled off One)) restoring X One ≡ (One, One)
+unfolding computing
 after_fifth = refl
 
 sixth : y idle One ≡ One
+unfolding computing
 sixth = refl
 
 -- where the retention supply is unknown while the block is off, the saved state is lost too
 after_fourth_unknown : next (Some (settled saving One)) (event_with Unknown Zero One Zero Zero Off) One One ≡ (X, X)
+unfolding computing
 after_fourth_unknown = refl
 
 -- ---- a block that is supplied through a switch
@@ -195,7 +208,7 @@ switched_outer = record {
 }
 
 abbrev switched : Powered
-switched = record { structure = record { modules = switched_outer ∷ plain_inner ∷ []; cells = flop ∷ switch ∷ cells }; around = around; fuel = 12 }
+switched = record { structure = record { modules = switched_outer ∷ plain_inner ∷ []; cells = flop ∷ switch ∷ cells }; around = around }
 
 abbrev all_zero : PinEvent
 all_zero = record { inputs = λ n j. Zero; supplies = λ n. if bytes_eq n (codes "lp_v_VSS") then On 0 else On 1000000 }
@@ -204,10 +217,13 @@ abbrev switched_y : Tern → Tern
 switched_y state = output_by_pins switched (computed_by_pins switched all_zero (states state X).main 12) (codes "y") None
 
 control_unknown : switched_y X ≡ X
+unfolding computing
 control_unknown = refl
 
 control_active : switched_y Zero ≡ One
+unfolding computing
 control_active = refl
 
 control_inactive : switched_y One ≡ X
+unfolding computing
 control_inactive = refl

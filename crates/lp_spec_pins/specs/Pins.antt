@@ -1,5 +1,5 @@
 -- A netlist judged by its pins: no domain, strategy or row occurs (Liberty pg_pin, related_power_pin, power_down_function, switch_function; own rule).
-use Rattle.std.specs.Prelude.{◌≡◌, ℕ, zero, suc, ◌+◌, ◌==◌, nat_le, nat_lt, Bool, true, false, not, ◌&&◌, ◌||◌, List, map, filter, Option, Some, None, option_and_then, if◌then◌else◌, bytes_eq, slice_get}
+use Rattle.std.specs.Prelude.{◌≡◌, ℕ, zero, suc, ◌==◌, nat_le, Bool, true, false, not, ◌&&◌, ◌||◌, List, map, filter, Option, Some, None, option_and_then, if◌then◌else◌, bytes_eq, slice_get}
 use Rattle.std.specs.List.{list_all, zip}
 use Rattle.lp_tern.specs.declared.tern.Tern.{Tern}
 use Rattle.lp_tern.specs.declared.tern.Tern.TheVariants.{Zero, One, X}
@@ -23,6 +23,7 @@ use Rattle.lp_behaviour.specs.Signals.{known}
 use Rattle.lp_spec_design.specs.Keys.{Name, Path, same_path, Node, Inner, Outer, Fixed, Source, CellPin, SwitchedPin, Environment, From}
 use Rattle.lp_spec_design.specs.Netlists.{Structure, first, cell_at}
 use Rattle.lp_spec_design.specs.Graph.{source_of, trail, beginning}
+use Rattle.lp_spec_design.specs.Nodes.{fuel_of}
 use Rattle.lp_spec_design.specs.Settled.{Value, Logic, State, Registers, logic_in, state_in, kept, is_on, pin_named, node_at_pin, output_by, function_value}
 
 -- ---- supplies
@@ -49,11 +50,10 @@ pub record Surroundings : Type 0 where
   pub receiver : Name → SupplyNodes
   pub margin : ℕ
 
--- the netlist with what surrounds it; the fuel is the number of its nodes
+-- the netlist with what surrounds it
 pub record Powered : Type 0 where
   pub structure : Structure
   pub around : Surroundings
-  pub fuel : ℕ
 
 pub data PinKey : Type 0 where
   Signal : Node → PinKey
@@ -68,7 +68,7 @@ signal_at B k = logic_in (B (Signal k))
 
 -- where the wire of a node begins
 abbrev pub begins : Powered → Node → Node
-begins w k = beginning k (trail w.structure w.fuel k)
+begins w k = beginning k (trail w.structure (fuel_of w.structure) k)
 
 abbrev pub supply_begun : Powered → Node → Option Source → Option SupplySource
 supply_begun w (Outer n j) (Some Environment) = if w.around.is_supply n then Some (FromTop n) else None

@@ -14,6 +14,7 @@ use Rattle.lp_model.specs.LibraryView.{ExprView, PgPinView, PinView, CellView}
 use Rattle.lp_rows.specs.Voltages.{under_of}
 use Rattle.lp_spec_design.specs.Keys.{Name, Path, Node, Inner, Outer, Fixed, Source, CellPin, SwitchedPin, Environment, From}
 use Rattle.lp_spec_design.specs.Netlists.{first, cell_at}
+use Rattle.lp_spec_design.specs.Nodes.{fuel_of}
 use Rattle.lp_spec_design.specs.Graph.{source_of, trail, going_back, way_in, beginning}
 use Rattle.lp_spec_design.specs.Intents.{SupplySet}
 use Rattle.lp_spec_design.specs.Settled.{Assignment, Design, at, at_some, kept, pin_named, state_named, value_named, named_value, function_value, output_by, node_at_pin, pins_at}
@@ -99,7 +100,7 @@ module _ (d : Design) (one : SupplySet) (plain : IsPlain d one) (w : Powered) (o
       by (Some (From way j)) is more = more j (carries.from_own k j way e is)
 
   begins-own : (k : Node) → own k ≡ true → own (begins w k) ≡ true
-  begins-own k e = beginning-own w.fuel k e
+  begins-own k e = beginning-own (fuel_of w.structure) k e
 
   begun_in : (k : Node) → own k ≡ true → source_of w.structure (begins w k) ≡ source_of d.structure (begins w k)
   begun_in k e = carries.same_source (begins w k) (begins-own k e)

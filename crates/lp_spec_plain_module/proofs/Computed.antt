@@ -8,6 +8,7 @@ use Rattle.lp_tern.specs.declared.supply.SupplyState.TheVariants.{On, Off}
 use Rattle.lp_model.specs.declared.netlist.Direction.TheVariants.{Input, Output}
 use Rattle.lp_model.specs.NetlistView.{ModuleView}
 use Rattle.lp_model.specs.LibraryView.{CellView}
+use Rattle.lp_spec_design.specs.Nodes.{computing}
 use Rattle.lp_spec_design.specs.Settled.{Event, computed, output}
 use Rattle.lp_spec_pins.specs.Pins.{computed_by_pins, output_by_pins}
 use Rattle.lp_spec_pins.specs.Supplied.{is_supplied}
@@ -19,6 +20,7 @@ use Rattle.lp_spec_plain_module.specs.Tests.{is_flat}
 use Rattle.lp_spec_plain_module.specs.Samples as sample
 
 accepted : is_flat sample.design ≡ true
+unfolding computing
 accepted = refl
 
 -- two ports more, and each power pin at the one, each ground pin at the other, wells too
@@ -32,9 +34,11 @@ expected = record sample.source {
 }
 
 written : powered sample.design ≡ expected
+unfolding computing
 written = refl
 
 supplied : is_supplied (netlist_of sample.design) ≡ true
+unfolding computing
 supplied = refl
 
 -- a cell whose output is not lost where the ground is not on
@@ -42,18 +46,21 @@ abbrev half : CellView
 half = record sample.dff { state = None; pins = sample.input (codes "D") ∷ record (sample.output (codes "Q") (sample.of_name (codes "D"))) { power_down = Some (record sample.down { steps = [] }) } ∷ [] }
 
 half_refused : is_plain_cell half ≡ false
+unfolding computing
 half_refused = refl
 
 abbrev port_taken : Flat
 port_taken = record sample.design { source = record sample.source { ports = sample.scalar (codes "lp_v_VDD") Input ∷ sample.source.ports } }
 
 port_taken_refused : is_flat port_taken ≡ false
+unfolding computing
 port_taken_refused = refl
 
 abbrev pin_taken : Flat
 pin_taken = record sample.design { source = record sample.source { instances = sample.gate (sample.to (codes "VDD") (codes "a") ∷ []) ∷ [] } }
 
 pin_taken_refused : is_flat pin_taken ≡ false
+unfolding computing
 pin_taken_refused = refl
 
 -- the register shows its state on both sides while its supply is on, and nothing else
@@ -67,17 +74,17 @@ q_by_pins : SupplyState → Tern
 q_by_pins power = output_by_pins (netlist_of sample.design) (computed_by_pins (netlist_of sample.design) (at_ports (origin_of sample.design) (event power)) (λ p x. One) 12) (codes "q") None
 
 state_shown : q_of (On 1000000) ≡ One
-unfolding q_of
+unfolding q_of computing
 state_shown = refl
 
 state_shown_by_pins : q_by_pins (On 1000000) ≡ One
-unfolding q_by_pins
+unfolding q_by_pins computing
 state_shown_by_pins = refl
 
 lost : q_of Off ≡ X
-unfolding q_of
+unfolding q_of computing
 lost = refl
 
 lost_by_pins : q_by_pins Off ≡ X
-unfolding q_by_pins
+unfolding q_by_pins computing
 lost_by_pins = refl

@@ -1,11 +1,12 @@
 -- Where the wires of a flat design's netlist begin.
-use Rattle.std.proofs.Common.{◌≡◌, ℕ, zero, suc, Bool, true, false, ◌||◌, ◌&&◌, cond, List, [], ◌∷◌, ◌++◌, map, Option, Some, None, refl, sym, ◌∙◌, ap, subst}
+use Rattle.std.proofs.Common.{◌≡◌, ℕ, zero, suc, ◌<◌, Bool, true, false, ◌||◌, ◌&&◌, cond, List, [], ◌∷◌, ◌++◌, map, length, Option, Some, None, refl, sym, ◌∙◌, ap, subst, arith, length-append}
 use Rattle.std.specs.Prelude.{bytes_eq, filter, flat_map}
 use Rattle.std.specs.List.{AllByRecursion, list_any}
 use Rattle.std.proofs.lemmas.Bool.{false≢true, true≢false, not-true, not-false}
 use Rattle.lp_model.specs.NetlistView.{PortView}
 use Rattle.lp_spec_design.specs.Keys.{Name, Path, Node, Inner, Outer, Fixed, PortBit, Source, Environment, From, same_index}
-use Rattle.lp_spec_design.specs.Netlists.{Structure, indices, is_input}
+use Rattle.lp_spec_design.specs.Netlists.{Structure, module_at, indices, is_input}
+use Rattle.lp_spec_design.specs.Nodes.{inner_nodes, outer_in, fuel_of}
 use Rattle.lp_spec_design.specs.Graph.{from_port, from_one, from_assign, numbered, outside, sources_of, source_of, trail, going_back, way_in, beginning}
 use Rattle.lp_spec_pins.specs.Pins.{FromTop, supply_begun, supply_of_node}
 use Rattle.lp_spec_plain.specs.Carried.{LeadsFromPort, FromNothing, AtPort, Along}
@@ -13,7 +14,7 @@ use Rattle.lp_spec_plain_module.specs.Designs.{Flat}
 use Rattle.lp_spec_plain_module.specs.Netlists.{power_port, ground_port, supply_input, powered_instance, powered, is_supply, netlist_of, is_own}
 use Rattle.lp_spec_plain_module.specs.Tests.{is_flat}
 use Rattle.lp_spec_plain_module.proofs.Lists.{filter-behind, filter-none}
-use Rattle.lp_spec_plain_module.proofs.Graphs.{source, written, no_assign, instances_flat, no_module, no_module_written}
+use Rattle.lp_spec_plain_module.proofs.Graphs.{source, written, top_written, no_assign, instances_flat, no_module, no_module_written}
 use Rattle.lp_spec_plain_module.proofs.Sources.{IsGood, AllByRecursion-append, instances_same, instances_none, instances_good, not_named, ports_same, ports_good, outside_good, inner_is, inner_written, outer_is, outer_written}
 
 abbrev head_of : List Source → Option Source
@@ -202,10 +203,31 @@ module _ (f : Flat) (flat : is_flat f ≡ true) where
   at_port n e = ap (supply_begun (netlist_of f) (Outer n None)) (port_source n e) ∙ ap (λ b. cond b (Some (FromTop n)) None) e
 
   pub port_supply : (n : Name) → is_supply f n ≡ true → supply_of_node (netlist_of f) (Outer n None) ≡ Some (FromTop n)
-  port_supply n e = ap (λ k. supply_begun (netlist_of f) k (source_of t k)) (begins_at_port n e (suc f.nodes)) ∙ at_port n e
+  port_supply n e = ap (λ k. supply_begun (netlist_of f) k (source_of t k)) (begins_at_port n e (fuel_of t)) ∙ at_port n e
+
+  -- the two ports are nodes, so that there is one
+  outer_bits : List PortView → List Node
+  outer_bits ports = flat_map (λ (x : PortView). map (λ i. Outer x.name i) (indices x.range)) ports
+
+  some_outer : (ports : List PortView) → 0 < length (outer_bits (ports ++ supply_input (power_port f) ∷ supply_input (ground_port f) ∷ []))
+  unfolding outer_bits
+  some_outer [] = omega arith
+  some_outer (q ∷ ports) =
+      let more = some_outer ports in
+      omega (arith, length-append (map (λ i. Outer q.name i) (indices q.range)) (outer_bits (ports ++ supply_input (power_port f) ∷ supply_input (ground_port f) ∷ [])), more)
+
+  some_node : 0 < fuel_of t
+  unfolding fuel_of outer_bits
+  some_node =
+      let outer : 0 < length (outer_in (module_at t [])) = subst (λ o. 0 < length (outer_in o)) (sym (top_written f flat)) (some_outer f.source.ports) in
+      omega (arith, length-append (inner_nodes t) (outer_in (module_at t [])), outer)
+
+  begins_before : (n : Name) → is_supply f n ≡ true → (fuel : ℕ) → 0 < fuel → beginning (Inner n None []) (trail t fuel (Inner n None [])) ≡ Outer n None
+  begins_before n e zero some = absurd (omega arith)
+  begins_before n e (suc fuel) some = ap (λ o. beginning (Inner n None []) (going_back (λ j. trail t fuel j) (way_in o))) (supply_source n e) ∙ begins_at_port n e fuel
 
   pub net_supply : (n : Name) → is_supply f n ≡ true → supply_of_node (netlist_of f) (Inner n None []) ≡ Some (FromTop n)
   net_supply n e =
       ap (λ k. supply_begun (netlist_of f) k (source_of t k))
-      (ap (λ o. beginning (Inner n None []) (going_back (λ j. trail t f.nodes j) (way_in o))) (supply_source n e) ∙ begins_at_port n e f.nodes)
+      (begins_before n e (fuel_of t) some_node)
       ∙ at_port n e

@@ -8,12 +8,8 @@ use Rattle.lp_spec_design.specs.Settled.{Key}
 use Rattle.lp_spec_design.specs.Reads.{keys, reads}
 use Rattle.lp_spec_plain_module.specs.Designs.{Flat, design_of}
 
--- a node for each net, and one more for the outer side of each port
-abbrev pub nodes_of : ModuleView → ℕ
-nodes_of m = length m.ports + (length m.ports + length m.nets)
-
 abbrev pub flat_of : List CellView → ModuleView → Name → Name → ℕ → Flat
-flat_of cells m power gnd margin = record { cells = cells; source = m; power = power; gnd = gnd; margin = margin; nodes = nodes_of m }
+flat_of cells m power gnd margin = record { cells = cells; source = m; power = power; gnd = gnd; margin = margin }
 
 -- a node depends on itself
 abbrev pub HasLoop : Flat → Type 0

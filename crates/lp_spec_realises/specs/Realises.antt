@@ -1,16 +1,18 @@
 -- When a netlist realises a source under its power intent (own rule).
-use Rattle.std.specs.Prelude.{ℕ, zero, suc, ◌==◌, Bool, true, false, not, ◌&&◌, List, [], ◌∷◌, ◌++◌, map, filter, length, Option, Some, None, is_some, option_and_then, if◌then◌else◌, bytes_eq, flat_map, slice_get, IsTrue}
+use Rattle.std.specs.Prelude.{ℕ, zero, suc, ◌==◌, Bool, true, false, not, ◌&&◌, List, [], ◌∷◌, ◌++◌, map, filter, length, Option, Some, None, is_some, option_and_then, if◌then◌else◌, bytes_eq, slice_get, IsTrue}
 use Rattle.std.specs.List.{list_any, list_all}
 use Rattle.lp_model.specs.declared.library.Action.{Action}
 use Rattle.lp_model.specs.declared.library.PinUse.{PinUse}
 use Rattle.lp_model.specs.declared.library.PinUse.TheVariants.{Retain}
 use Rattle.lp_model.specs.declared.library.RetClass.TheVariants.{Save, Restore, Both}
 use Rattle.lp_model.specs.declared.supply.SetOrigins.{SetOrigins}
-use Rattle.lp_model.specs.NetlistView.{PortView, InstanceView, ModuleView}
+use Rattle.lp_model.specs.NetlistView.{PortView, ModuleView}
 use Rattle.lp_model.specs.LibraryView.{SwitchedView, PgPinView, PinView, CellView}
 use Rattle.lp_spec_design.specs.Keys.{Name, Path, same_path, same_bool, same_node, Node}
 use Rattle.lp_spec_design.specs.Netlists.{Structure, module_at, cell_at, indices, is_input}
-use Rattle.lp_spec_design.specs.Graph.{below, numbered, Reader, top_outputs}
+use Rattle.lp_spec_design.specs.Instances.{module_instances, Placed, cell_instances}
+use Rattle.lp_spec_design.specs.Nodes.{fuel_of}
+use Rattle.lp_spec_design.specs.Graph.{numbered, Reader, top_outputs}
 use Rattle.lp_spec_design.specs.Intents.{SupplySet, Origin, FromPort, FromSwitch, Strategy}
 use Rattle.lp_spec_design.specs.Domains.{domain_of, primary_of, way_of, node_before, supply_of_port}
 use Rattle.lp_spec_design.specs.Chains.{Operator, Clamp, Shift}
@@ -20,19 +22,11 @@ use Rattle.lp_spec_pins.specs.Pins.{is_input_pin, is_data}
 use Rattle.lp_spec_network.specs.Pairs.{pairs_of}
 use Rattle.lp_spec_fit.specs.Joins.{Joins, source_joins, clamp_joins, shifter_joins, register_joins, switch_joins}
 use Rattle.lp_spec_fit.specs.Fits.{fits_clamp, fits_shifter, fits_register, fits_switch, input_for, one_output, is_iso_data, is_iso_enable, is_switch_pin, retention_pins, switched_pins, only}
-use Rattle.lp_spec_realises.specs.Projects.{Project, Placed, network_of, functions_of, on_expression}
+use Rattle.lp_spec_realises.specs.Projects.{Project, network_of, functions_of, on_expression}
 use Rattle.lp_spec_realises.specs.Operators.{OperatorAt, all_operators, SwitchAt, all_switches, Placement, placed_operator, placed_switch}
 use Rattle.lp_spec_realises.specs.Ends.{End, AtTop, Nowhere, same_end, wire_end, end_at_pin, output_end, switched_end, intended, some_intended}
 
 -- ---- instances
-
-abbrev pub cells_in : Structure → Path → Option ModuleView → List Placed
-cells_in s p None = []
-cells_in s p (Some m) = map (λ (x : InstanceView). record { path = p; instance = x.name }) (filter (λ (x : InstanceView). is_some (cell_at s p x.name)) m.instances)
-
--- all cell instances; a design is at most 64 deep
-abbrev pub cell_instances : Structure → List Placed
-cell_instances s = flat_map (λ p. cells_in s p (module_at s p)) (below s 64 [])
 
 abbrev pub same_placed : Placed → Placed → Bool
 same_placed a b = bytes_eq a.instance b.instance && same_path a.path b.path
@@ -58,7 +52,7 @@ abbrev pub has_path : List Path → Path → Bool
 has_path all p = list_any (same_path p) all
 
 abbrev pub same_paths : Structure → Structure → Bool
-same_paths s w = list_all (has_path (below w 64 [])) (below s 64 []) && list_all (has_path (below s 64 [])) (below w 64 [])
+same_paths s w = list_all (has_path (module_instances w)) (module_instances s) && list_all (has_path (module_instances s)) (module_instances w)
 
 abbrev pub same_port : PortView → PortView → Bool
 same_port a b = bytes_eq a.name b.name && (same_bool (is_input a) (is_input b) && (length (indices a.range) == length (indices b.range)))
@@ -299,11 +293,11 @@ supplies_begin p w at fuel =
 
 -- ---- the whole
 
--- for some cell instances that stand for the operators and the switches; the fuel is the number of nodes of the netlist
-pub record Realises (p : Project) (w : Structure) (fuel : ℕ) : Type 0 where
+-- for some cell instances that stand for the operators and the switches
+pub record Realises (p : Project) (w : Structure) : Type 0 where
   pub placement : Placement
   pub instances : IsTrue (same_instances p w)
   pub cells : IsTrue (has_the_cells p w placement)
-  pub wires : IsTrue (begins_right p w placement fuel)
-  pub controls : IsTrue (controls_begin p w placement fuel)
-  pub supplies : IsTrue (supplies_begin p w placement fuel)
+  pub wires : IsTrue (begins_right p w placement (fuel_of w))
+  pub controls : IsTrue (controls_begin p w placement (fuel_of w))
+  pub supplies : IsTrue (supplies_begin p w placement (fuel_of w))

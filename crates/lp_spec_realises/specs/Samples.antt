@@ -42,7 +42,6 @@ project i = record {
   supplies = supplies (On 1000000 ∷ Off ∷ []) (On 1000000 ∷ []);
   node = λ k. Inner (codes "en") None [];
   margin = 0;
-  fuel = 8;
   port_of_origin = λ o. if o == 0 then codes "lp_v_VDD" else if o == 1 then codes "lp_v_VDC" else codes "lp_v_VSS";
 }
 

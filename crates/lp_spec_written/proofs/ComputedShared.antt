@@ -3,6 +3,7 @@ use Rattle.std.proofs.Common.{◌≡◌, List, [], ◌∷◌, length, Some, None
 use Rattle.std.specs.Prelude.{codes}
 use Rattle.lp_model.specs.NetlistView.{InstanceView, ModuleView}
 use Rattle.lp_spec_design.specs.Keys.{Name}
+use Rattle.lp_spec_design.specs.Nodes.{computing}
 use Rattle.lp_spec_design.specs.Samples.{with_strategies}
 use Rattle.lp_spec_realises.specs.Projects.{Project}
 use Rattle.lp_spec_pins.proofs.Clamped.{joined}
@@ -45,10 +46,12 @@ equal_below = refl
 
 -- another cell below makes both levels differ
 other_below : shared (pairs_of (codes "BUF")) ≡ pairs_of (codes "BUF")
+unfolding computing
 other_below = refl
 
 -- a block with a clamp, and one without
 nothing_shared : shared clamped_modules ∷ shared twins_modules ∷ [] ≡ clamped_modules ∷ twins_modules ∷ []
+unfolding computing
 nothing_shared = refl
 
 -- ---- two copies of a module in one domain: the names are those of the shared modules
@@ -84,6 +87,7 @@ abbrev alike_modules : List ModuleView
 alike_modules = alike_top ∷ copy (codes "lp_1_core") ∷ copy (codes "lp_2_core") ∷ []
 
 written_alike : written alike any_cell ≡ alike_modules
+unfolding computing
 written_alike = closed alike_modules (written alike any_cell) refl refl
 
 -- three supply ports and the first copy; the second one is not written

@@ -41,7 +41,6 @@ project modules i = record {
   supplies = supplies (On 1000000 ∷ Off ∷ []);
   node = λ k. Inner (codes "en") None [];
   margin = 0;
-  fuel = 8;
   port_of_origin = λ o. if o == 0 then codes "lp_v_VDD" else if o == 1 then codes "lp_v_VDC" else codes "lp_v_VSS";
 }
 
@@ -224,7 +223,7 @@ abbrev pub by_the_other : Strategy → Strategy
 by_the_other t = by_control (Inner (codes "i") None (codes "w" ∷ codes "u" ∷ [])) t
 
 abbrev pub control_across : Project
-control_across = record (project (side_by_side ∷ around ∷ core ∷ []) (record (with_strategies (by_the_other (isolation 1 None Outputs) ∷ by_the_other (isolation 0 (Some (AtInstance clamped_instance ∷ [])) Inputs) ∷ [])) { domains = record { elements = [] ∷ []; primary = Some 0; isolation = None; retention = None } ∷ record { elements = clamped_instance ∷ []; primary = Some 1; isolation = None; retention = None } ∷ [] })) { fuel = 16 }
+control_across = project (side_by_side ∷ around ∷ core ∷ []) (record (with_strategies (by_the_other (isolation 1 None Outputs) ∷ by_the_other (isolation 0 (Some (AtInstance clamped_instance ∷ [])) Inputs) ∷ [])) { domains = record { elements = [] ∷ []; primary = Some 0; isolation = None; retention = None } ∷ record { elements = clamped_instance ∷ []; primary = Some 1; isolation = None; retention = None } ∷ [] })
 
 -- a register with retention, whose copy the top's supply keeps
 abbrev pub retained : Project

@@ -7,12 +7,13 @@ use Rattle.lp_model.specs.NetlistView.{BitView, NetBit, PortView, NetView, Conne
 use Rattle.lp_model.specs.LibraryView.{CellView}
 use Rattle.lp_spec_design.specs.Keys.{Name, Path, same_path}
 use Rattle.lp_spec_design.specs.Netlists.{first}
+use Rattle.lp_spec_design.specs.Instances.{Placed, cell_instances}
 use Rattle.lp_spec_design.specs.Graph.{numbered, some_of, when}
 use Rattle.lp_spec_design.specs.Intents.{Origin, FromPort, FromSwitch}
 use Rattle.lp_spec_design.specs.Registers.{is_above}
 use Rattle.lp_spec_fit.specs.Joins.{Joins}
-use Rattle.lp_spec_realises.specs.Projects.{Project, Placed, network_of}
-use Rattle.lp_spec_realises.specs.Realises.{cell_instances, cell_of, same_placed, joins_of_source, joins_of_operator, joins_of_switch}
+use Rattle.lp_spec_realises.specs.Projects.{Project, network_of}
+use Rattle.lp_spec_realises.specs.Realises.{cell_of, same_placed, joins_of_source, joins_of_operator, joins_of_switch}
 use Rattle.lp_spec_written.specs.Places.{with_number, Standing, Kept, Switching, Plan}
 
 -- ---- what each power and ground pin is joined to
