@@ -86,8 +86,8 @@ abbrev driven_by : Project → Reading → Bool × Driver
 driven_by p (ClampReads o) = (true, driver_read p (ClampReads o))
 driven_by p (PinReads r k) = (false, driver_read p (PinReads r k))
 
--- the clamp and the buffer behind it are driven by the block's inverter, that by the top's input; the top's output by the buffer
-drivers : map (driven_by (project by_the_block)) (all_readings (project by_the_block)) ≡ (true, OfPin block (codes "g") (codes "Y")) ∷ (false, OfPin block (codes "g") (codes "Y")) ∷ (false, OfInput (codes "a") None) ∷ (false, OfPin [] (codes "b") (codes "Y")) ∷ []
+-- the clamp and, behind it, the buffer are driven by the block's inverter, that one by the top's input, and the top's output by the buffer
+drivers : map (driven_by (project by_the_block)) (all_readings (project by_the_block)) ≡ (true, OfPin block (codes "g") (codes "Y")) ∷ (false, OfInput (codes "a") None) ∷ (false, OfPin block (codes "g") (codes "Y")) ∷ (false, OfPin [] (codes "b") (codes "Y")) ∷ []
 unfolding computing
 drivers = refl
 
