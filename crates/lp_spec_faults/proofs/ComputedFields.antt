@@ -1,14 +1,15 @@
 -- The fields of the lines of faults beside their places, and the order of commands, computed on the small designs.
 use Rattle.std.proofs.Common.{◌≡◌, true, false, List, [], ◌∷◌, Option, Some, None, refl}
-use Rattle.std.specs.Prelude.{ℕ, Bool, codes, map, option_and_then}
+use Rattle.std.specs.Prelude.{ℕ, Bool, codes, map, option_map, option_and_then}
 use Rattle.lp_model.specs.declared.intent.Applies.TheVariants.{Outputs}
 use Rattle.lp_model.specs.declared.intent.DeclaredState.TheVariants.{On}
 use Rattle.lp_model.specs.declared.intent.StrategyKind.TheVariants.{Isolation, Shifting}
+use Rattle.lp_model.specs.declared.side.Location.TheVariants.{Parent}
 use Rattle.lp_model.specs.declared.supply.OriginKind.TheVariants.{Port, Switch}
 use Rattle.lp_model.specs.NetlistView.{NetBit, ConstBit, ByName, ByPosition, ConnectionsView, ModuleView}
 use Rattle.lp_spec_design.specs.Keys.{Path, Inner}
 use Rattle.lp_spec_design.specs.Nodes.{computing}
-use Rattle.lp_spec_design.specs.Intents.{Element, AtInstance, AtBit, Strategy, Intent}
+use Rattle.lp_spec_design.specs.Intents.{Element, AtInstance, AtPort, AtBit, Strategy, Intent}
 use Rattle.lp_spec_design.specs.Samples.{plain, top, core, to, registered, with_strategies, isolation, shifting, by_supply, retaining}
 use Rattle.lp_spec_network.specs.Samples.{origin}
 use Rattle.lp_spec_realises.specs.Projects.{Project}
@@ -58,6 +59,11 @@ in_one_domain i = record i { domains = record { elements = [] ∷ []; primary = 
 no_boundary_there : map is_refused (portless (in_one_domain (names_in 0 block)) ∷ project (in_one_domain (names_in 0 block)) ∷ []) ≡ true ∷ true ∷ []
 unfolding computing
 no_boundary_there = refl
+
+-- what is excluded is not asked: a port of the top, which is no part of the block's boundary
+excluded_elements : map (λ t. is_refused (project (with_strategies (t ∷ [])))) (record (isolation 1 None Outputs) { excluded = AtPort [] (codes "y") ∷ [] } ∷ isolation 1 (Some (AtPort [] (codes "y") ∷ [])) Outputs ∷ []) ≡ false ∷ true ∷ []
+unfolding computing
+excluded_elements = refl
 
 -- ---- F51: the first two of three
 
@@ -117,6 +123,14 @@ two_shifters_of = refl
 abbrev other_input : Project
 other_input = lower (with_strategies (the_bit ∷ record (shifting 1 0) { input = Some 2 } ∷ []))
 
+-- a clamp in the parent and a shifter behind it in the block
+abbrev against_the_flow : Project
+against_the_flow = record (project (with_strategies (shifting 1 0 ∷ record (by_supply 2 (isolation 1 None Outputs)) { location = Parent } ∷ []))) { supplies = supplies (On 800000 ∷ []) (On 800000 ∷ []) }
+
+clamp_and_shifter_of : strategies_at against_the_flow (first_of (location_order against_the_flow)) ≡ (Some 1, Some 0)
+unfolding computing
+clamp_and_shifter_of = refl
+
 shifter_of : strategies_at other_input (first_of (shift_supply other_input)) ≡ (Some 0, Some 1)
 unfolding computing
 shifter_of = refl
@@ -143,7 +157,7 @@ switch_first = refl
 in_their_order : in_command_order ((4, codes "a") ∷ (0, codes "b") ∷ (2, codes "c") ∷ []) ≡ codes "b" ∷ codes "c" ∷ codes "a" ∷ []
 in_their_order = refl
 
--- ---- F60: the strategy for which no cell fits
+-- ---- F60: the strategy for which no cell fits; a switch has none
 
 abbrev any_cell : Lists
 any_cell = record { of_strategy = λ k. None; of_switch = λ o. None; scope_of_switch = λ o. [] }
@@ -151,6 +165,16 @@ any_cell = record { of_strategy = λ k. None; of_switch = λ o. None; scope_of_s
 abbrev without_clamps : Project
 without_clamps = record (project (with_strategies (shifting 1 0 ∷ isolation 1 None Outputs ∷ []))) { structure = record plain { cells = inverter ∷ buffer ∷ [] } }
 
-clamp_by_strategy : option_and_then (entry_strategy without_clamps) (first_of (no_cell without_clamps any_cell)) ≡ Some 1
+-- a register of which no cell keeps the state, and a switch
+abbrev without_copies : Project
+without_copies = record (project (with_strategies (shifting 1 0 ∷ retaining None ∷ []))) { structure = registered }
+
+abbrev without_switches : Project
+without_switches = record (low_controls 3) { intent = with_strategies [] }
+
+abbrev no_cell_by : Project → Option (Option ℕ)
+no_cell_by p = option_map (entry_strategy p) (first_of (no_cell p any_cell))
+
+no_cells : map no_cell_by (without_clamps ∷ without_copies ∷ without_switches ∷ project (with_strategies []) ∷ []) ≡ Some (Some 1) ∷ Some (Some 1) ∷ Some None ∷ None ∷ []
 unfolding computing
-clamp_by_strategy = refl
+no_cells = refl
