@@ -1,5 +1,5 @@
 -- The fields of the lines of faults beside their places, and the order of commands, computed on the small designs.
-use Rattle.std.proofs.Common.{◌≡◌, true, false, List, [], ◌∷◌, Option, Some, None, refl}
+use Rattle.std.proofs.Common.{◌≡◌, true, false, [], ◌∷◌, Option, Some, None, refl}
 use Rattle.std.specs.Prelude.{ℕ, Bool, codes, map, option_map, option_and_then}
 use Rattle.lp_model.specs.declared.intent.Applies.TheVariants.{Outputs}
 use Rattle.lp_model.specs.declared.intent.DeclaredState.TheVariants.{On}
@@ -9,7 +9,7 @@ use Rattle.lp_model.specs.declared.supply.OriginKind.TheVariants.{Port, Switch}
 use Rattle.lp_model.specs.NetlistView.{NetBit, ConstBit, ByName, ByPosition, ConnectionsView, ModuleView}
 use Rattle.lp_spec_design.specs.Keys.{Path, Inner}
 use Rattle.lp_spec_design.specs.Nodes.{computing}
-use Rattle.lp_spec_design.specs.Intents.{Element, AtInstance, AtPort, AtBit, Strategy, Intent}
+use Rattle.lp_spec_design.specs.Intents.{AtInstance, AtPort, AtBit, Strategy, Intent}
 use Rattle.lp_spec_design.specs.Samples.{plain, top, core, to, registered, with_strategies, isolation, shifting, by_supply, retaining}
 use Rattle.lp_spec_network.specs.Samples.{origin}
 use Rattle.lp_spec_realises.specs.Projects.{Project}
