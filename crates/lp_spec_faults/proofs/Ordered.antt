@@ -1,8 +1,8 @@
 -- What commands made goes up by their numbers, and has of each command what it made.
-use Rattle.std.proofs.Common.{◌≡◌, ◌⊎◌, ℕ, zero, suc, ◌+◌, ◌==◌, ◌<◌, ◌≤◌, max, Bool, true, false, ◌&&◌, List, [], ◌∷◌, ◌++◌, inl, inr, refl, sym, ap, ◌∙◌, cond, arith}
-use Rattle.std.specs.Prelude.{nat_le, filter, flat_map}
+use Rattle.std.proofs.Common.{◌≡◌, ◌⊎◌, ℕ, zero, suc, ◌+◌, ◌==◌, ◌<◌, ◌≤◌, Bool, true, false, List, [], ◌∷◌, ◌++◌, inl, inr, refl, sym, subst, ap, ◌∙◌, cond, arith}
+use Rattle.std.specs.Prelude.{nat_le, flat_map}
 use Rattle.std.specs.List.{list_all}
-use Rattle.std.proofs.lemmas.Bool.{and_from, cases_lt, eqb-true, eq-eqb, ne_eqb, le-leb}
+use Rattle.std.proofs.lemmas.Bool.{and_parts, and_from, cases_lt, eqb-true, eq-eqb, ne_eqb, leb-true, le-leb, false≢true}
 use Rattle.std.proofs.lemmas.List.{append-nil}
 use Rattle.std.proofs.lemmas.List.Elements.{filter-append}
 use Rattle.std.proofs.lemmas.List.Folds.{list_all-append}
@@ -117,3 +117,59 @@ module _ {A : Type 0} where
     | inl below ↦ of_made all (numbers_below all) 0 k (omega arith) (omega arith)
     | inr past ↦ of_none all (numbers_below all) 0 k (inr (omega arith)) ∙ sym (beyond all k past)
   ]
+
+  -- ---- no other list goes up and has of each command what it made
+
+  here : (x : ℕ × A) (xs : List (ℕ × A)) (k : ℕ) → x.0 ≡ k → of_command (x ∷ xs) k ≡ x ∷ of_command xs k
+  here x xs k is = ap (λ b. cond b (x ∷ of_command xs k) (of_command xs k)) (eq-eqb x.0 k is)
+
+  passed : (x : ℕ × A) (xs : List (ℕ × A)) (k : ℕ) → (x.0 ≡ k → ⊥) → of_command (x ∷ xs) k ≡ of_command xs k
+  passed x xs k other = ap (λ b. cond b (x ∷ of_command xs k) (of_command xs k)) (ne_eqb x.0 k other)
+
+  not_below : (xs : List (ℕ × A)) (m k : ℕ) → list_all (λ y. nat_le m y.0) xs ≡ true → k < m → of_command xs k ≡ []
+  not_below [] m k h low = refl
+  not_below (x ∷ xs) m k h low =
+      let parts = and_parts (nat_le m x.0) (list_all (λ y. nat_le m y.0) xs) h in
+      let least : m ≤ x.0 = leb-true m x.0 parts.0 in
+      passed x xs k (λ is. omega arith) ∙ not_below xs m k parts.1 low
+
+  -- a list that goes up does not have a command before its first
+  no_earlier : (y : ℕ × A) (ys : List (ℕ × A)) (k : ℕ) → goes_up (y ∷ ys) ≡ true → k < y.0 → of_command (y ∷ ys) k ≡ []
+  no_earlier y ys k up low =
+      let parts = and_parts (list_all (λ z. nat_le y.0 z.0) ys) (goes_up ys) up in
+      passed y ys k (λ is. omega arith) ∙ not_below ys y.0 k parts.0 low
+
+  behind_up : (y : ℕ × A) (ys : List (ℕ × A)) → goes_up (y ∷ ys) ≡ true → goes_up ys ≡ true
+  behind_up y ys up = (and_parts (list_all (λ z. nat_le y.0 z.0) ys) (goes_up ys) up).1
+
+  no_head : (x : ℕ × A) (xs : List (ℕ × A)) → x ∷ xs ≡ [] → ⊥
+  no_head x xs e = cc
+
+  same_lists : (xs ys : List (ℕ × A)) → goes_up xs ≡ true → goes_up ys ≡ true → ((k : ℕ) → of_command xs k ≡ of_command ys k) → xs ≡ ys
+  same_lists [] [] f g h = refl
+  same_lists [] (y ∷ ys) f g h = absurd (no_head y (of_command ys y.0) (sym (h y.0 ∙ here y ys y.0 refl)))
+  same_lists (x ∷ xs) [] f g h = absurd (no_head x (of_command xs x.0) (sym (here x xs x.0 refl) ∙ h x.0))
+  same_lists (x ∷ xs) (y ∷ ys) f g h = elim (cases_lt x.0 y.0) [
+    | inl low ↦ absurd (no_head x (of_command xs x.0) (sym (here x xs x.0 refl) ∙ h x.0 ∙ no_earlier y ys x.0 g low))
+    | inr not_low ↦ elim (cases_lt y.0 x.0) [
+      | inl high ↦ absurd (no_head y (of_command ys y.0) (sym (here y ys y.0 refl) ∙ sym (h y.0) ∙ no_earlier x xs y.0 f high))
+      | inr not_high ↦ both (omega arith) (λ rest. same_lists xs ys (behind_up x xs f) (behind_up y ys g) rest)
+    ]
+  ]
+    where
+      both : x.0 ≡ y.0 → (((k : ℕ) → of_command xs k ≡ of_command ys k) → xs ≡ ys) → x ∷ xs ≡ y ∷ ys
+      both is more =
+          let parts : x ∷ of_command xs x.0 ≡ y ∷ of_command ys x.0 = sym (here x xs x.0 refl) ∙ h x.0 ∙ here y ys x.0 (sym is) in
+          let first : x ≡ y = cc in
+          let behind : of_command xs x.0 ≡ of_command ys x.0 = cc in
+          let rest = more (λ k. at k (x.0 == k) refl behind) in
+          cc
+        where
+          at : (k : ℕ) (b : Bool) → (x.0 == k) ≡ b → of_command xs x.0 ≡ of_command ys x.0 → of_command xs k ≡ of_command ys k
+          at k true e behind = let here : x.0 ≡ k = eqb-true x.0 k e in subst (λ j. of_command xs j ≡ of_command ys j) here behind
+          at k false e behind =
+              let other : x.0 ≡ k → ⊥ = λ same. false≢true (sym e ∙ eq-eqb x.0 k same) in
+              sym (passed x xs k other) ∙ h k ∙ passed y ys k (λ same. other (is ∙ same))
+
+  pub commands_only : (all ys : List (ℕ × A)) → goes_up ys ≡ true → ((k : ℕ) → of_command ys k ≡ of_command all k) → ys ≡ by_commands all
+  commands_only all ys up same = same_lists ys (by_commands all) up (commands_up all) (λ k. same k ∙ sym (commands_same all k))

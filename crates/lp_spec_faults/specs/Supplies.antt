@@ -114,12 +114,12 @@ abbrev pub ground_mismatch : Asked → Line (ℕ × SupplySet)
 ground_mismatch x = record { places = used_sets x; test = other_ground x (used_sets x) }
 
 -- the first field of its line, before the set that differs: the first used set in command order
-abbrev pub first_number : List (ℕ × SupplySet) → Option SetNumber
-first_number [] = None
-first_number (s ∷ rest) = Some s.0
+abbrev pub number_of_first : List (ℕ × SupplySet) → Option SetNumber
+number_of_first [] = None
+number_of_first (s ∷ rest) = Some s.0
 
 abbrev pub first_used : Asked → Option SetNumber
-first_used x = first_number (used_sets x)
+first_used x = number_of_first (used_sets x)
 
 -- ---- F41 GroundLevel and F40 NoStates, over the origins of the state table
 

@@ -23,9 +23,12 @@ pub fn ends_without_fault<T>()
     ensures { (l : Line T) → list_any l.test l.places ≡ false → first_of l ≡ None }
 {}
 
-/// What commands made, in their order, goes up by the numbers of the commands, and has of each command what it made.
-#[tactic(auto, using(crate::proofs::Ordered::commands_up, crate::proofs::Ordered::commands_same))]
+/// What commands made, in their order, goes up by the numbers of the commands, and has of each command what it made. No
+/// other list does.
+#[tactic(auto, using(crate::proofs::Ordered::commands_up, crate::proofs::Ordered::commands_same, crate::proofs::Ordered::commands_only))]
 pub fn commands_go_in_order<T>()
     ensures up { (all : List (ℕ × T)) → goes_up (by_commands all) ≡ true }
     ensures same { (all : List (ℕ × T)) (k : ℕ) → of_command (by_commands all) k ≡ of_command all k }
+    ensures only { (all ordered : List (ℕ × T)) → goes_up ordered ≡ true
+        → ((k : ℕ) → of_command ordered k ≡ of_command all k) → ordered ≡ by_commands all }
 {}
