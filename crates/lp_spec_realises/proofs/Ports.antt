@@ -9,7 +9,7 @@ use Rattle.lp_tern.specs.declared.supply.SupplyState.TheVariants.{Unknown}
 use Rattle.lp_model.specs.declared.netlist.BitRange.{BitRange}
 use Rattle.lp_model.specs.NetlistView.{PortView, NetView, InstanceView, ModuleView}
 use Rattle.lp_spec_design.specs.Keys.{Name, Node, Inner, Outer, PortBit, Source, Environment, From, same_index}
-use Rattle.lp_spec_design.specs.Netlists.{Structure, first, is_instantiated, module_at, indices, is_input}
+use Rattle.lp_spec_design.specs.Netlists.{Structure, first, is_instantiated, module_at, indices}
 use Rattle.lp_spec_design.specs.Nodes.{fuel_of}
 use Rattle.lp_spec_design.specs.Graph.{outside, sources_of, source_of, trail, going_back, way_in, beginning}
 use Rattle.lp_spec_design.specs.Reads.{name-true, name-self}

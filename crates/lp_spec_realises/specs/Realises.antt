@@ -8,8 +8,8 @@ use Rattle.lp_model.specs.declared.library.RetClass.TheVariants.{Save, Restore, 
 use Rattle.lp_model.specs.declared.supply.SetOrigins.{SetOrigins}
 use Rattle.lp_model.specs.NetlistView.{PortView, ModuleView}
 use Rattle.lp_model.specs.LibraryView.{SwitchedView, PgPinView, PinView, CellView}
-use Rattle.lp_spec_design.specs.Keys.{Name, Path, same_path, same_node, Node}
-use Rattle.lp_spec_design.specs.Netlists.{Structure, module_at, cell_at, is_input}
+use Rattle.lp_spec_design.specs.Keys.{Path, same_path, same_node, Node}
+use Rattle.lp_spec_design.specs.Netlists.{Structure, cell_at, is_input}
 use Rattle.lp_spec_design.specs.Instances.{module_instances, Placed, cell_instances}
 use Rattle.lp_spec_design.specs.Nodes.{fuel_of}
 use Rattle.lp_spec_design.specs.Graph.{numbered, Reader, top_outputs}

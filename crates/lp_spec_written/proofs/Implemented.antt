@@ -186,7 +186,7 @@ named_clamped : Named clamped any_cell clamped_modules
 named_clamped = record { same = sym (ap shared written_clamped) }
 
 -- what holds of the modules that are compared holds of the written ones
-by_same : (p : Project) (l : Lists) (modules w : List ModuleView) → w ≡ modules → Implements p l modules 24 → Implements p l w
+by_same : (p : Project) (l : Lists) (modules w : List ModuleView) → w ≡ modules → Implements p l modules → Implements p l w
 by_same p l modules w e h = rw e h
 
 the_written_one_implements : Implements clamped any_cell (written clamped any_cell)
