@@ -1,11 +1,12 @@
 -- The nodes of a design, and ways that come back to where they began (IEEE 1364-2005, net and port declarations; the order is an own rule).
-use Rattle.std.specs.Prelude.{ℕ, Bool, List, [], ◌++◌, map, length, Option, Some, None, flat_map}
+use Rattle.std.specs.Prelude.{◌≡◌, ℕ, Bool, List, [], ◌++◌, map, length, Option, Some, None, flat_map}
 use Rattle.std.specs.List.{list_any}
 use Rattle.lp_model.specs.NetlistView.{PortView, NetView, ModuleView}
-use Rattle.lp_spec_design.specs.Keys.{Path, Node, Inner, Outer, same_node}
+use Rattle.lp_spec_design.specs.Keys.{Path, Node, Inner, Outer, Source, same_node}
 use Rattle.lp_spec_design.specs.Netlists.{Structure, module_at, indices}
 use Rattle.lp_spec_design.specs.Instances.{module_instances, cell_instances}
-use Rattle.lp_spec_design.specs.Graph.{trail}
+use Rattle.lp_spec_design.specs.Graph.{source_of, trail}
+use Rattle.lp_spec_design.specs.Winners.{IsIn}
 
 -- the bits of a module instance: ports and then nets, from the left bit to the right one
 abbrev pub nodes_in : Path → Option ModuleView → List Node
@@ -34,6 +35,14 @@ fuel_of s = length (nodes_of s)
 -- a node lies on its own way back
 abbrev pub is_on_its_way : Structure → Node → Bool
 is_on_its_way s k = list_any (λ step. same_node step.1 k) (trail s (fuel_of s) k)
+
+-- F23 holds nowhere where this is false
+abbrev pub has_wire_loop : Structure → Bool
+has_wire_loop s = list_any (is_on_its_way s) (inner_nodes s)
+
+-- whatever has a source is one of the nodes
+abbrev pub HasItsNodes : Structure → Type 0
+HasItsNodes s = (k : Node) (x : Source) → source_of s k ≡ Some x → IsIn k (nodes_of s)
 
 -- what a computed example opens
 unfoldable pub computing : Unit {0}

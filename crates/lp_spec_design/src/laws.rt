@@ -12,6 +12,7 @@ ghost use Rattle.lp_spec_settling.specs.Settling.{HasOrder, SettlesOnce};
 ghost use Rattle.lp_spec_design.specs.Keys.{Node};
 ghost use Rattle.lp_spec_design.specs.Settled.{Assignment, Design, Event, HasFuel, Registers, rail_of, SettlesIntent, active, at, equation, set_on, through};
 ghost use Rattle.lp_spec_design.specs.Reads.{keys, reads};
+ghost use Rattle.lp_spec_design.specs.Nodes.{HasItsNodes, has_wire_loop};
 ghost use Rattle.lp_spec_design.specs.Registers.{States};
 ghost use Rattle.lp_spec_design.specs.Runs.{RunsOnce, SameRegisters};
 
@@ -66,4 +67,11 @@ pub fn same_registers_as_themselves()
 pub fn lost_where_the_rail_is_off()
     ensures { (d : Design) (event : Event) (registers : Registers) (A : Assignment) → SettlesIntent d event registers A → HasFuel d
         → (k : Node) (r : SetNumber) → rail_of d k ≡ Some r → set_on d.network A (Some r) ≡ false → at A k ≡ X }
+{}
+
+/// Where whatever has a source is one of the nodes, and no net bit reaches itself over ways alone, no way back is longer
+/// than there are nodes.
+#[tactic(auto, using(crate::proofs::Looped::no_loop_fuel))]
+pub fn no_loop_has_fuel()
+    ensures { (d : Design) → HasItsNodes d.structure → has_wire_loop d.structure ≡ false → HasFuel d }
 {}
