@@ -1,4 +1,4 @@
-use Rattle.std.proofs.Common.{rules, ◌≤◌, ◌-◌, length, take, drop, subst, sym, arith, length-take, length-drop}
+use Rattle.std.proofs.Common.{◌-◌, length, take, drop, subst, sym, arith, length-take}
 use Rattle.std.specs.Io.KnownBytes.{Appends}
 use Rattle.lp_text.proofs.Putting.{appends-kept, appends-more}
 use Rattle.lp_text.proofs.stream.put.Goals as goal
