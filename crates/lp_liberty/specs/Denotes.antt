@@ -14,12 +14,9 @@ use Rattle.lp_liberty.specs.declared.run.TheConstants.{LONGEST}
 use Rattle.lp_liberty.specs.declared.mark.Mark.TheVariants as marks
 use Rattle.lp_liberty.specs.Grammar.{Token, Name, Sign, are_args, Form, Limited}
 use Rattle.lp_liberty.specs.Meaning.{groups_in}
-use Rattle.lp_liberty.specs.Tokens.{Placed}
+use Rattle.lp_liberty.specs.Tokens.{Placed, bare}
 use Rattle.lp_liberty.specs.Spelling.{Listed}
 use Rattle.lp_liberty.specs.declared.mark.Context.TheVariants as contexts
-
-abbrev pub bare : List Placed → List Token
-bare tokens = map (λ (t : Placed). t.token) tokens
 
 -- the tokens that stand in a text
 abbrev pub IsTokens : List ℕ → List Placed → Type 0
@@ -60,22 +57,13 @@ pub record LeavesForm (end : ℕ) (tokens : List Placed) (index : ℕ) : Type 0 
   pub leaves : Leaves Token Form (bare tokens) number
   pub is : index ≡ index_in end tokens number
 
--- at a token of more than 1,048,576 bytes
-pub record HasLongToken (tokens : List Placed) (index : ℕ) : Type 0 where
-  pub number : ℕ
-  pub before : KeepsLimits tokens number
-  pub token : Placed
-  pub after : List Placed
-  pub here : drop number tokens ≡ token ∷ after
-  pub long : LONGEST < token.size
-  pub is : index ≡ token.at
-
--- at the word of a group whose opening brace goes on in the form, but not with at most 64 nested groups
+-- at the word of a group whose opening brace goes on in the form, but not with at most 64 nested groups; its word comes before each
+-- token that is too long, as one of its arguments may be
 pub record HasDeepGroup (end : ℕ) (tokens : List Placed) (index : ℕ) : Type 0 where
   pub number : ℕ
-  pub before : KeepsLimits tokens number
-  pub short : IsTrue (are_short (take (suc number) tokens))
   pub front : List Token
+  pub short : IsTrue (are_short (take (length front) tokens))
+  pub before : (rest : List Token) × Limited (take number (bare tokens) ++ rest)
   pub word : List ℕ
   pub args : List Token
   pub are_args : IsTrue (are_args args)
@@ -84,6 +72,17 @@ pub record HasDeepGroup (end : ℕ) (tokens : List Placed) (index : ℕ) : Type 
   pub goes_on : (rest : List Token) × Form (take (suc number) (bare tokens) ++ rest)
   pub leaves : Leaves Token Limited (bare tokens) number
   pub is : index ≡ index_in end tokens (length front)
+
+-- at a token of more than 1,048,576 bytes, where no group that is too deep begins before it
+pub record HasLongToken (tokens : List Placed) (index : ℕ) : Type 0 where
+  pub number : ℕ
+  pub before : KeepsLimits tokens number
+  pub token : Placed
+  pub after : List Placed
+  pub here : drop number tokens ≡ token ∷ after
+  pub long : LONGEST < token.size
+  pub first : (end place : ℕ) → (deep : HasDeepGroup end tokens place) → number ≤ length deep.front
+  pub is : index ≡ token.at
 
 -- ---- answers
 

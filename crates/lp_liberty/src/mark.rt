@@ -1,3 +1,6 @@
+ghost use Rattle.std.specs.Prelude.{◌≡◌};
+ghost use Rattle.lp_liberty.specs.Machine.{context_of, is_deep_by};
+
 /// A token that is no name.
 #[derive(Clone, Copy)]
 pub(crate) enum Mark {
@@ -86,4 +89,28 @@ pub(crate) enum Mode {
     Behind,
     /// Items of a simple attribute.
     Items,
+}
+
+impl Mode {
+    /// The form of the next token.
+    pub(crate) fn context(self) -> Context
+        ensures { result ≡ context_of self }
+    {
+        match self {
+            Mode::Args(Last::Name) => Context::BehindArg,
+            Mode::Args(_) => Context::Args,
+            Mode::Items => Context::Items,
+            Mode::Begin(_) | Mode::Named | Mode::Behind => Context::Statement,
+        }
+    }
+
+    /// Whether a mark is the opening brace of a group.
+    pub(crate) fn is_deep(self, mark: Mark) -> bool
+        ensures { result ≡ is_deep_by self mark }
+    {
+        match (self, mark) {
+            (Mode::Behind, Mark::BraceOpen) => true,
+            _ => false,
+        }
+    }
 }

@@ -54,7 +54,8 @@ fn refusal_of(file: u32, text: &[u8], stop: Stop) -> Refusal
 /// # Errors
 ///
 /// `Limit` (F02) for a text of more than 67,108,864 bytes, at its first byte; for a group within 64 others, at its
-/// word; for a token of more than 1,048,576 bytes, at its first byte. `Syntax` (F01) at the first token that no text of
+/// word; for a token of more than 1,048,576 bytes, at its first byte, but for one in the head of such a group, whose
+/// word comes first. `Syntax` (F01) at the first token that no text of
 /// the form has after the same ones before it, or one past the last byte of a text that ends first. And where memory is
 /// refused. The table has grown by at most as many names as the text has bytes.
 pub fn read_groups(
