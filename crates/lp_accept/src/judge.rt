@@ -43,7 +43,9 @@ fn unknown(alloc: Global, names: &Names, source: &Module, instance: &Instance) -
 /// The one module of a netlist of the form that is taken.
 pub(crate) fn one_module(alloc: Global, names: &Names, netlist: Netlist) -> Result<Module, Stop>
     requires { numbers_below (length names.now) (netlist_numbers netlist) ≡ true }
-    ensures gives { OrStop (λ m. IsOne (netlist_view names.now netlist) (module_view names.now m) × (numbers_below (length names.now) (module_numbers m) ≡ true)) (IsNotOne (netlist_view names.now netlist)) result }
+    ensures gives { OrStop
+        (λ m. IsOne (netlist_view names.now netlist) (module_view names.now m) × (numbers_below (length names.now) (module_numbers m) ≡ true))
+        (IsNotOne (netlist_view names.now netlist)) result }
 {
     if !is_single(names, &netlist) {
         return Err(not_yet(alloc, names, 4));
@@ -64,7 +66,8 @@ fn check_fit(
 ) -> Result<(), Stop>
     requires cells { numbers_below (length names.now) (flat_map cell_numbers index.now) ≡ true }
     requires source { numbers_below (length names.now) (module_numbers source.now) ≡ true }
-    ensures { OrStop (λ _. Fitting (map (cell_view names.now) index.now) (module_view names.now source.now)) (Misfits (map (cell_view names.now) index.now) (module_view names.now source.now)) result }
+    ensures { OrStop (λ _. Fitting (map (cell_view names.now) index.now) (module_view names.now source.now))
+        (Misfits (map (cell_view names.now) index.now) (module_view names.now source.now)) result }
 {
     if let Some(instance) = unknown_target(index, names, source) {
         return Err(unknown(alloc, names, source, instance));
@@ -98,7 +101,8 @@ fn check_sound(
     requires read { are_read (map (cell_view names.now) index.now) (module_view names.now source.now) ≡ true }
     requires fits { Fitting (map (cell_view names.now) index.now) (module_view names.now source.now) }
     requires few { length names.now ≤ 1140850689 }
-    ensures { OrStop (λ _. Sound (map (cell_view names.now) index.now) (module_view names.now source.now)) (Unsound (map (cell_view names.now) index.now) (module_view names.now source.now)) result }
+    ensures { OrStop (λ _. Sound (map (cell_view names.now) index.now) (module_view names.now source.now))
+        (Unsound (map (cell_view names.now) index.now) (module_view names.now source.now)) result }
 {
     let plain = are_plain(alloc, index, names, source)?;
     if !plain {
@@ -125,7 +129,8 @@ pub(crate) fn judge(
     requires read { are_read (map (cell_view names.now) cells.now) (module_view names.now source.now) ≡ true }
     requires few { length names.now ≤ 1140850689 }
     requires few_cells { length cells.now ≤ 1140850689 }
-    ensures { OrStop (Judged (map (cell_view names.now) cells.now) (module_view names.now source.now) upf.now) (Unjudged (map (cell_view names.now) cells.now) (module_view names.now source.now) upf.now) result }
+    ensures { OrStop (Judged (map (cell_view names.now) cells.now) (module_view names.now source.now) upf.now)
+        (Unjudged (map (cell_view names.now) cells.now) (module_view names.now source.now) upf.now) result }
 {
     let index = CellIndex::new(alloc, names.count(), cells)?;
     match check_fit(alloc, &index, names, source) {

@@ -16,6 +16,3 @@ pub use laws::{
 };
 pub use register::state_next;
 pub use usable::is_usable;
-
-#[cfg(test)]
-mod tests;

@@ -11,6 +11,3 @@ mod structure;
 
 pub use files::library;
 pub use laws::{one_library, one_library_answer, usable_cells_are_sound};
-
-#[cfg(test)]
-mod tests;

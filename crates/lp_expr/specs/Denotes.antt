@@ -1,5 +1,5 @@
 -- What an expression that was read stands for: a formula over the names of a table (own rule).
-use Rattle.std.specs.Prelude.{◌≡◌, ℕ, ◌+◌, ◌≤◌, Bool, true, false, List, [], ◌∷◌, length, map, fold, unwrap_or, IsTrue, nat_lt, bytes_eq, if◌then◌else◌, Option, Some, None}
+use Rattle.std.specs.Prelude.{◌≡◌, ℕ, ◌+◌, ◌≤◌, Bool, true, false, List, [], ◌∷◌, length, map, fold, unwrap_or, IsTrue, MatchBool, nat_lt, bytes_eq, if◌then◌else◌, Option, Some, None}
 use Rattle.std.specs.List.{list_all, flat_map}
 use Rattle.std.specs.Global.{Vec}
 use Rattle.lp_text.specs.declared.names.NameId.{NameId}
@@ -114,6 +114,10 @@ pub record Noted (old : List (List ℕ)) (before : List NameId) (more : List (Li
 pub record Overflows (old : List (List ℕ)) (before : List NameId) (more : List (List ℕ)) (new : List (List ℕ)) : Type 0 where
   pub many : 13 ≤ length (fold with_text (texts_of old before) more)
   pub same : new ≡ old
+
+-- whether names that come leave at most 12 variables
+abbrev pub NotedIf : List (List ℕ) → List NameId → List (List ℕ) → List (List ℕ) → List NameId → Bool → Type 0
+NotedIf old before more new after fits = MatchBool fits (Noted old before more new after) (Overflows old before more new)
 
 -- the variables of all names, none where they are 13 or more
 abbrev pub Collected : List (List ℕ) → List (List ℕ) → Option (Vec NameId) → Type 0

@@ -1,5 +1,5 @@
 /// Whose expressions a text has.
-#[derive(Clone, Copy, Debug, PartialEq, Eq)]
+#[derive(Clone, Copy)]
 pub enum Dialect {
     /// Attributes of Liberty groups.
     Liberty,
@@ -8,7 +8,7 @@ pub enum Dialect {
 }
 
 /// A sign between two operands.
-#[derive(Clone, Copy, Debug, PartialEq, Eq)]
+#[derive(Clone, Copy)]
 pub(crate) enum Sign {
     /// `^`
     Caret,
@@ -29,7 +29,7 @@ pub(crate) enum Sign {
 }
 
 /// A sign whose operand has not ended yet.
-#[derive(Clone, Copy, Debug, PartialEq, Eq)]
+#[derive(Clone, Copy)]
 pub(crate) enum Mark {
     /// An open parenthesis.
     Open,
@@ -40,7 +40,7 @@ pub(crate) enum Mark {
 }
 
 /// What was read last.
-#[derive(Clone, Copy, Debug, PartialEq, Eq)]
+#[derive(Clone, Copy)]
 pub(crate) enum Mode {
     /// An operand has to come.
     Want,
@@ -55,7 +55,7 @@ pub(crate) enum Mode {
 }
 
 /// A part of an expression in postfix order.
-#[derive(Clone, Copy, Debug, PartialEq, Eq)]
+#[derive(Clone, Copy)]
 pub(crate) enum Part {
     /// A name or a constant, from a byte to another.
     Plain(usize, usize),

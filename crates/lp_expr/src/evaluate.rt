@@ -6,7 +6,7 @@ use crate::expr::Expr;
 use lp_tern::Tern;
 
 /// The digits of places that values fix: the first value fixes the least digit.
-#[derive(Debug, Drop)]
+#[derive(Drop)]
 struct Fixed {
     /// 1 at each digit whose value is known.
     mask: usize,

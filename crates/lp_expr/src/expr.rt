@@ -7,7 +7,7 @@ use std::alloc::Global;
 use std::marker::Model;
 
 /// A Boolean expression over at most 12 variables: contracts see its variables and its steps.
-#[derive(Debug, Drop)]
+#[derive(Drop)]
 pub struct Expr {
     /// A bit for each choice of 0 or 1 for the variables, 64 to a word: the first variable is the
     /// least binary digit of the bit's number.

@@ -21,6 +21,3 @@ pub use expr::Expr;
 pub use laws::{always_one, always_zero, one_expression, one_place, postfix_computes};
 pub use read::{ExprFault, read_control, read_liberty};
 pub use step::Step;
-
-#[cfg(test)]
-mod tests;

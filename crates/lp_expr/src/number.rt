@@ -1,9 +1,9 @@
-ghost use Rattle.std.specs.Prelude.{◌≡◌, [], ◌∷◌, Some, IfSome, ◌+◌, ◌<◌, ◌≤◌, length, map, false, IsTrue, IfOk, OnErr, MatchBool, MatchOption, vec_len, OnOk, take, drop, ◌-◌, nat_le, ◌&&◌};
+ghost use Rattle.std.specs.Prelude.{◌≡◌, [], ◌∷◌, Some, IfSome, ◌+◌, ◌<◌, ◌≤◌, length, map, false, IsTrue, IfOk, OnErr, MatchOption, vec_len, OnOk, take, drop, ◌-◌, nat_le, ◌&&◌};
 ghost use Rattle.std.specs.Option.{option_copied, option_map, option_to_list};
 ghost use Rattle.lp_text.specs.Texts.{Grown, has_text, place_of, with_text};
 ghost use Rattle.lp_expr.specs.Grammar.{is_name};
 ghost use Rattle.lp_expr.specs.Parts.{between, item_of, is_within, are_within};
-ghost use Rattle.lp_expr.specs.Denotes.{texts_of, are_below, place_from, Noted, Overflows, Collected, firsts, parts_names, is_named, are_named, parts_steps, constant_of, item_names, item_step, number_in, operation};
+ghost use Rattle.lp_expr.specs.Denotes.{texts_of, are_below, place_from, NotedIf, Collected, firsts, parts_names, is_named, are_named, parts_steps, constant_of, item_names, item_step, number_in, operation};
 ghost use Rattle.lp_expr.specs.declared.step.Step.TheVariants.{Variable};
 
 use crate::dialect::{Part, Sign};
@@ -47,7 +47,7 @@ fn note(names: &mut Names, ids: &mut Vec<NameId>, name: &str) -> Result<bool, No
     requires room { length names.old ≤ 4294967283 + vec_len ids.old }
     requires below { IsTrue (are_below (length names.old) ids.old.items) }
     requires few { vec_len ids.old ≤ 12 }
-    ensures ok { IfOk result (λ fits. MatchBool fits (Noted names.old ids.old.items (name.now ∷ []) names.new ids.new.items) (Overflows names.old ids.old.items (name.now ∷ []) names.new)) }
+    ensures ok { IfOk result (NotedIf names.old ids.old.items (name.now ∷ []) names.new ids.new.items) }
     ensures grown { OnErr result (Grown names.old names.new) }
     ensures one_more { OnErr result (length names.new ≤ length names.old + 1) }
     ensures few { OnErr result (length names.new + vec_len ids.old ≤ length names.old + 12) }
@@ -116,7 +116,7 @@ fn note_part(
     requires few { vec_len ids.old ≤ 12 }
     requires within { IsTrue (is_within (length text.now) part) }
     requires named { IsTrue (is_named (item_of text.now part)) }
-    ensures ok { IfOk result (λ fits. MatchBool fits (Noted names.old ids.old.items (item_names (item_of text.now part)) names.new ids.new.items) (Overflows names.old ids.old.items (item_names (item_of text.now part)) names.new)) }
+    ensures ok { IfOk result (NotedIf names.old ids.old.items (item_names (item_of text.now part)) names.new ids.new.items) }
     ensures grown { OnErr result (Grown names.old names.new) }
     ensures one_more { OnErr result (length names.new ≤ length names.old + 1) }
     ensures few { OnErr result (length names.new + vec_len ids.old ≤ length names.old + 12) }

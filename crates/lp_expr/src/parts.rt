@@ -10,7 +10,7 @@ use lp_text::NoMemory;
 use std::alloc::Global;
 
 /// Why a text has no parts.
-#[derive(Clone, Copy, Debug, PartialEq, Eq)]
+#[derive(Clone, Copy)]
 pub(crate) enum PartsFault {
     /// No expression goes on with the byte of this number, or with the text's end there.
     Syntax(usize),

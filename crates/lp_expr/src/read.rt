@@ -14,7 +14,7 @@ use std::alloc::Global;
 use thiserror::Error;
 
 /// Why a text is no expression that can be kept.
-#[derive(Clone, Copy, Debug, PartialEq, Eq, Error)]
+#[derive(Clone, Copy, Debug, Error)]
 pub enum ExprFault {
     /// The number, from 0, of the first byte that no expression continues, or of the text's end.
     #[error("no expression continues at byte {0}")]

@@ -1,5 +1,5 @@
 /// A step of an expression in postfix order: an operator takes its operands from the steps before it.
-#[derive(Clone, Copy, Debug, PartialEq, Eq)]
+#[derive(Clone, Copy)]
 pub enum Step {
     /// The value of a variable, by its number from 0.
     Variable(u8),

@@ -1,3 +1,4 @@
+mod Computed
 pub mod Leading
 pub mod Origins
 pub mod Rising

@@ -3,3 +3,4 @@ pub mod Lines
 pub mod Paths
 pub mod Supplies
 pub mod Views
+pub mod Laws

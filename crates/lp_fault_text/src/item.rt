@@ -1,7 +1,7 @@
 use lp_model::{EdgeId, InstId, LeafId, NodeId, OriginId, ScopedName, SetId, StrategyId};
 
 /// Which of two netlists is meant.
-#[derive(Clone, Copy, Debug, PartialEq, Eq)]
+#[derive(Clone, Copy)]
 pub enum Which {
     /// The netlist to which the power intent belongs.
     Source,
@@ -10,7 +10,7 @@ pub enum Which {
 }
 
 /// A part of a netlist, by its numbers in the netlist's graph.
-#[derive(Clone, Copy, Debug, PartialEq, Eq)]
+#[derive(Clone, Copy)]
 pub enum Part {
     /// An instance, the top by the name of its module.
     Inst(InstId),
@@ -29,7 +29,7 @@ pub enum Part {
 }
 
 /// A field of a line.
-#[derive(Clone, Copy, Debug, PartialEq, Eq)]
+#[derive(Clone, Copy)]
 pub enum Item {
     /// A number.
     Number(u32),

@@ -12,6 +12,3 @@ mod supply;
 pub use known::Known;
 pub use laws::{paths_lead_from_the_top, plain_lines_stay};
 pub use line::write_fault;
-
-#[cfg(test)]
-mod tests;

@@ -1,7 +1,8 @@
 -- What a Liberty text denotes, and where it is refused (own rule).
-use Rattle.std.specs.Prelude.{◌≡◌, ℕ, zero, suc, ◌<◌, ◌≤◌, Bool, false, nat_le, IsTrue, List, [], ◌∷◌, ◌++◌, length, map, take, drop, None}
+use Rattle.std.specs.Prelude.{◌≡◌, ◌⊎◌, ℕ, zero, suc, ◌<◌, ◌≤◌, Bool, false, nat_le, IsTrue, List, [], ◌∷◌, ◌++◌, length, map, take, drop, None}
 use Rattle.std.specs.List.{list_all}
 use Rattle.lp_spec_place.specs.Leaving.{Leaves}
+use Rattle.lp_text.specs.declared.shelf.TheConstants.{LIMIT}
 use Rattle.lp_text.specs.Places.{place_in}
 use Rattle.lp_model.specs.declared.groups.Groups.{Groups}
 use Rattle.lp_model.specs.GroupsView.{GroupView, groups_view}
@@ -9,6 +10,7 @@ use Rattle.lp_model.specs.Refusals.{library_refusal}
 use Rattle.lp_model.specs.declared.fault.library.LibraryFault.TheVariants as faults
 use Rattle.lp_model.specs.declared.fault.refusal.Refusal.{Refusal}
 use Rattle.lp_model.specs.declared.fault.refusal.Refusal.TheVariants as refusals
+use Rattle.lp_liberty.specs.declared.run.TheConstants.{LONGEST}
 use Rattle.lp_liberty.specs.declared.mark.Mark.TheVariants as marks
 use Rattle.lp_liberty.specs.Grammar.{Token, Name, Sign, are_args, Form, Limited}
 use Rattle.lp_liberty.specs.Meaning.{groups_in}
@@ -25,12 +27,12 @@ IsTokens text tokens = Listed contexts.Statement 0 text tokens
 
 -- tokens have at most 1,048,576 bytes each
 abbrev pub are_short : List Placed → Bool
-are_short tokens = list_all (λ (t : Placed). nat_le t.size 1048576) tokens
+are_short tokens = list_all (λ (t : Placed). nat_le t.size LONGEST) tokens
 
 -- ---- texts that are taken
 
 pub record Denotes (text : List ℕ) (groups : List GroupView) : Type 0 where
-  pub small : length text ≤ 67108864
+  pub small : length text ≤ LIMIT
   pub tokens : List Placed
   pub stand : IsTokens text tokens
   pub short : IsTrue (are_short tokens)
@@ -65,7 +67,7 @@ pub record HasLongToken (tokens : List Placed) (index : ℕ) : Type 0 where
   pub token : Placed
   pub after : List Placed
   pub here : drop number tokens ≡ token ∷ after
-  pub long : 1048576 < token.size
+  pub long : LONGEST < token.size
   pub is : index ≡ token.at
 
 -- at the word of a group whose opening brace goes on in the form, but not with at most 64 nested groups
@@ -93,8 +95,12 @@ pub record ReadsGroups (file : ℕ) (text : List ℕ) (names : List (List ℕ)) 
 
 -- the text's fault: too long, too deep, a token too long, off the form
 pub data RefusedAs (file : ℕ) (text : List ℕ) : Refusal → Type 0 where
-  Large : 67108864 < length text → RefusedAs file text (library_refusal (faults.Limit file (place_in text 0)))
-  Long : (tokens : List Placed) (index : ℕ) → length text ≤ 67108864 → IsTokens text tokens → HasLongToken tokens index → RefusedAs file text (library_refusal (faults.Limit file (place_in text index)))
-  Deep : (tokens : List Placed) (index : ℕ) → length text ≤ 67108864 → IsTokens text tokens → HasDeepGroup (length text) tokens index → RefusedAs file text (library_refusal (faults.Limit file (place_in text index)))
-  Off : (tokens : List Placed) (index : ℕ) → length text ≤ 67108864 → IsTokens text tokens → LeavesForm (length text) tokens index → RefusedAs file text (library_refusal (faults.Syntax file (place_in text index)))
+  Large : LIMIT < length text → RefusedAs file text (library_refusal (faults.Limit file (place_in text 0)))
+  Long : (tokens : List Placed) (index : ℕ) → length text ≤ LIMIT → IsTokens text tokens → HasLongToken tokens index → RefusedAs file text (library_refusal (faults.Limit file (place_in text index)))
+  Deep : (tokens : List Placed) (index : ℕ) → length text ≤ LIMIT → IsTokens text tokens → HasDeepGroup (length text) tokens index → RefusedAs file text (library_refusal (faults.Limit file (place_in text index)))
+  Off : (tokens : List Placed) (index : ℕ) → length text ≤ LIMIT → IsTokens text tokens → LeavesForm (length text) tokens index → RefusedAs file text (library_refusal (faults.Syntax file (place_in text index)))
   NoMemory : RefusedAs file text refusals.NoMemory
+
+-- the same refusal, if neither is for want of memory
+abbrev pub SameFault : Refusal → Refusal → Type 0
+SameFault r s = (r ≡ refusals.NoMemory) ⊎ ((s ≡ refusals.NoMemory) ⊎ (r ≡ s))

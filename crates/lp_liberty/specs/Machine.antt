@@ -4,6 +4,7 @@ use Rattle.lp_text.specs.declared.names.NameId.{NameId}
 use Rattle.lp_text.specs.Texts.{with_text, place_of}
 use Rattle.lp_model.specs.declared.groups.Attr.{Attr}
 use Rattle.lp_model.specs.declared.groups.Group.{Group}
+use Rattle.lp_liberty.specs.declared.run.TheConstants.{LONGEST}
 use Rattle.lp_liberty.specs.declared.mark.Mark.{Mark}
 use Rattle.lp_liberty.specs.declared.mark.Mark.TheVariants as marks
 use Rattle.lp_liberty.specs.declared.mark.Context.{Context}
@@ -170,12 +171,16 @@ stepped stop names (Some m) = Taken names m
 abbrev pub numbered_as : List (List ℕ) → List ℕ → NameId
 numbered_as names text = record { 0 = unwrap_or (place_of text names) 0 }
 
+-- the number of a name once it stands in the table
+abbrev pub number_in : List (List ℕ) → List ℕ → NameId
+number_in names text = numbered_as (with_text names text) text
+
 abbrev pub taken_in : List (List ℕ) → Machine → ℕ → Token → Step
-taken_in names m at (Name quoted w) = stepped (Stopped at) (with_text names w) (name_in quoted (numbered_as (with_text names w) w) at m)
+taken_in names m at (Name quoted w) = stepped (Stopped at) (with_text names w) (name_in quoted (number_in names w) at m)
 taken_in names m at (Sign k) = stepped (if is_deep_by m.mode k then Deep m.head else Stopped at) names (mark_in k m)
 
 abbrev pub step_in : List (List ℕ) → Machine → Placed → Step
-step_in names m t = if nat_lt 1048576 t.size then Refused (Long t.at) else taken_in names m t.at t.token
+step_in names m t = if nat_lt LONGEST t.size then Refused (Long t.at) else taken_in names m t.at t.token
 
 abbrev pub read_on : (List (List ℕ) → Machine → Reading) → Step → Reading
 read_on more (Taken names m) = more names m
@@ -191,5 +196,5 @@ read_in size names m (t ∷ tokens) = read_on (λ new n. read_in size new n toke
 
 -- the next token is taken, if there is one
 abbrev pub step_at : List (List ℕ) → Machine → ℕ → ℕ → Option Token → Step
-step_at names m at size None = if nat_lt 1048576 size then Refused (Long at) else Taken names m
+step_at names m at size None = if nat_lt LONGEST size then Refused (Long at) else Taken names m
 step_at names m at size (Some t) = step_in names m (record { at = at; size = size; token = t })

@@ -13,6 +13,3 @@ mod runs;
 
 pub use laws::{one_answer, one_list_of_groups, one_list_of_tokens};
 pub use read::read_groups;
-
-#[cfg(test)]
-mod tests;

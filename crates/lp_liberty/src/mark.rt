@@ -1,5 +1,5 @@
 /// A token that is no name.
-#[derive(Clone, Copy, Debug, PartialEq, Eq)]
+#[derive(Clone, Copy)]
 pub(crate) enum Mark {
     /// `(`
     ParenOpen,
@@ -22,7 +22,7 @@ pub(crate) enum Mark {
 }
 
 /// What a token is.
-#[derive(Clone, Copy, Debug, PartialEq, Eq)]
+#[derive(Clone, Copy)]
 pub(crate) enum Sort {
     /// A word.
     Word,
@@ -35,7 +35,7 @@ pub(crate) enum Sort {
 }
 
 /// Where a token stands, as far as its form depends on it.
-#[derive(Clone, Copy, Debug, PartialEq, Eq)]
+#[derive(Clone, Copy)]
 pub(crate) enum Context {
     /// Outside arguments and items.
     Statement,
@@ -48,7 +48,7 @@ pub(crate) enum Context {
 }
 
 /// Where a byte between tokens stands.
-#[derive(Clone, Copy, Debug, PartialEq, Eq)]
+#[derive(Clone, Copy)]
 pub(crate) enum Gap {
     /// Outside comments: whether something was met that separates names.
     Plain(bool),
@@ -63,7 +63,7 @@ pub(crate) enum Gap {
 }
 
 /// What was read last among arguments.
-#[derive(Clone, Copy, Debug, PartialEq, Eq)]
+#[derive(Clone, Copy)]
 pub(crate) enum Last {
     /// The opening parenthesis.
     Nothing,
@@ -74,7 +74,7 @@ pub(crate) enum Last {
 }
 
 /// What a reader has read of the current statement.
-#[derive(Clone, Copy, Debug, PartialEq, Eq)]
+#[derive(Clone, Copy)]
 pub(crate) enum Mode {
     /// Nothing: whether a semicolon may stand here.
     Begin(bool),

@@ -1,10 +1,11 @@
 ghost use Rattle.std.specs.Prelude.{◌≡◌, ℕ, List, [], ◌∷◌, Some, None, ◌+◌, ◌<◌, ◌≤◌, ◌^◌, true, false, length, drop, IfOk, IfErr, OnOk, OnErr, if◌then◌else◌};
 ghost use Rattle.std.specs.String.{string_bytes};
+ghost use Rattle.lp_text.specs.declared.shelf.TheConstants.{LIMIT};
 ghost use Rattle.lp_text.specs.Texts.{Grown, has_text, place_of, with_text};
 ghost use Rattle.lp_liberty.specs.Grammar.{Sign};
 ghost use Rattle.lp_liberty.specs.Lexing.{name_of};
 ghost use Rattle.lp_liberty.specs.Tokens.{between, token_of, tokens_of};
-ghost use Rattle.lp_liberty.specs.Machine.{Taken, Whole, finished, mark_in, name_in, numbered_as, read_in, start, step_at, taken_in};
+ghost use Rattle.lp_liberty.specs.Machine.{Taken, Whole, finished, mark_in, name_in, number_in, numbered_as, read_in, start, step_at, taken_in};
 ghost use Rattle.lp_liberty.specs.Outcome.{IsStop, RefusedBy};
 
 use crate::decode::decode;
@@ -20,7 +21,7 @@ use std::alloc::Global;
 const LONGEST: usize = 1_048_576;
 
 /// Why a text gives no groups: the index of a byte, or of the text's end.
-#[derive(Clone, Copy, Debug, PartialEq, Eq)]
+#[derive(Clone, Copy)]
 pub(crate) enum Stop {
     /// No text of the form goes on with the token here, or ends here.
     Syntax(usize),
@@ -68,7 +69,7 @@ fn take_name(
 ) -> Result<bool, NoMemory>
     requires { length names.old < 4294967295 }
     ensures names { OnOk result (names.new ≡ with_text names.old (name_of said.now)) }
-    ensures taken { IfOk result (λ taken. name_in quoted (numbered_as (with_text names.old (name_of said.now)) (name_of said.now)) at reader.old ≡ (if taken then Some reader.new else None)) }
+    ensures taken { IfOk result (λ taken. name_in quoted (number_in names.old (name_of said.now)) at reader.old ≡ (if taken then Some reader.new else None)) }
     ensures grown { Grown names.old names.new }
     ensures few { length names.new ≤ length names.old + 1 }
 {
@@ -146,7 +147,7 @@ fn finish(reader: Reader, end: usize) -> Result<Items<Group>, Stop>
 
 /// The groups of a text, or where it is refused.
 pub(crate) fn run(alloc: Global, names: &mut Names, text: &[u8]) -> Result<Items<Group>, Stop>
-    requires small { length text.now ≤ 67108864 }
+    requires small { length text.now ≤ LIMIT }
     requires room { length names.old ≤ 3000000000 }
     ensures ok { IfOk result (λ groups. read_in (length text.now) names.old start (tokens_of text.now) ≡ Whole names.new groups) }
     ensures err { IfErr result (λ stop. IsStop stop (read_in (length text.now) names.old start (tokens_of text.now))) }

@@ -10,3 +10,4 @@ pub mod NetlistView
 pub mod Reasons
 pub mod Refusals
 pub mod Slots
+pub mod Laws

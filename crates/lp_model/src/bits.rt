@@ -7,7 +7,7 @@ use std::marker::Model;
 use std::slice;
 
 /// A bit of a value: a net bit or a constant (IEEE 1364-2005, concatenations, bit-selects and sized constants).
-#[derive(Clone, Copy, Debug, PartialEq, Eq)]
+#[derive(Clone, Copy)]
 pub enum Bit {
     /// A scalar net.
     Net(NameId),

@@ -1,5 +1,5 @@
 /// How much room edits of a netlist take. What is added to a module counts once for each of its instances.
-#[derive(Clone, Copy, Debug, PartialEq, Eq)]
+#[derive(Clone, Copy)]
 pub struct Counts {
     /// Nodes.
     pub nodes: u64,

@@ -4,7 +4,7 @@ use lp_text::NameId;
 use sqlite_items::Items;
 
 /// What an added net or port is for (own names: lp_v, lp_w, lp_n and lp_c).
-#[derive(Clone, Copy, Debug, PartialEq, Eq)]
+#[derive(Clone, Copy)]
 pub enum WireKind {
     /// The supply port of this name (lp_v).
     Supply(NameId),
@@ -17,7 +17,7 @@ pub enum WireKind {
 }
 
 /// The name of a node in its instance. It takes 12 bytes.
-#[derive(Clone, Copy, Debug, PartialEq, Eq)]
+#[derive(Clone, Copy)]
 pub enum NodeName {
     /// A scalar net of the source.
     Scalar(NameId),
@@ -28,7 +28,7 @@ pub enum NodeName {
 }
 
 /// What drives a node. It takes 8 bytes.
-#[derive(Clone, Copy, Debug, PartialEq, Eq)]
+#[derive(Clone, Copy)]
 pub enum Source {
     /// Nothing: its value is unknown.
     Nothing,
@@ -67,7 +67,7 @@ pub enum EdgeFrom {
 }
 
 /// What makes an edge.
-#[derive(Clone, Copy, Debug, PartialEq, Eq)]
+#[derive(Clone, Copy)]
 pub enum EdgeKind {
     /// A port connection of a module instance, or a port of the top.
     Port,
@@ -87,7 +87,7 @@ pub struct Edge {
 }
 
 /// What a pin of a cell instance is connected to. It takes 8 bytes.
-#[derive(Clone, Copy, Debug, PartialEq, Eq)]
+#[derive(Clone, Copy)]
 pub enum PinNet {
     /// Nothing.
     Unconnected,

@@ -5,7 +5,7 @@ use lp_text::NameId;
 use sqlite_items::Items;
 
 /// The name of what a command made, in the scope in which it was made.
-#[derive(Clone, Copy, Debug, PartialEq, Eq)]
+#[derive(Clone, Copy)]
 pub struct ScopedName {
     /// The instance that was the scope.
     pub scope: InstId,
@@ -60,7 +60,7 @@ pub struct SupplySet {
 }
 
 /// A declared state of a supply (IEEE 1801-2015 add_port_state).
-#[derive(Clone, Copy, Debug, PartialEq, Eq)]
+#[derive(Clone, Copy, PartialEq)]
 pub enum DeclaredState {
     /// On, at a voltage in microvolts, at most 10^12.
     On(u64),
@@ -167,7 +167,7 @@ pub struct CellList {
 }
 
 /// What a strategy is for.
-#[derive(Clone, Copy, Debug, PartialEq, Eq)]
+#[derive(Clone, Copy)]
 pub enum StrategyKind {
     /// IEEE 1801-2015 set_isolation.
     Isolation,
@@ -178,7 +178,7 @@ pub enum StrategyKind {
 }
 
 /// What `-elements` or `-exclude_elements` of a strategy names.
-#[derive(Clone, Copy, Debug, PartialEq, Eq)]
+#[derive(Clone, Copy)]
 pub enum Element {
     /// A module instance.
     Inst(InstId),
@@ -191,7 +191,7 @@ pub enum Element {
 }
 
 /// Which ports a strategy is for (IEEE 1801-2015 `-applies_to`).
-#[derive(Clone, Copy, Debug, PartialEq, Eq)]
+#[derive(Clone, Copy)]
 pub enum Applies {
     /// inputs
     Inputs,
@@ -211,7 +211,7 @@ pub enum SetOrDomain {
 }
 
 /// For which difference a level shifter is wanted (IEEE 1801-2015 set_level_shifter, `-rule`).
-#[derive(Clone, Copy, Debug, PartialEq, Eq)]
+#[derive(Clone, Copy)]
 pub enum Rule {
     /// low_to_high
     LowToHigh,
@@ -222,7 +222,7 @@ pub enum Rule {
 }
 
 /// A control of retention (IEEE 1801-2015 `-save_signal` and `-restore_signal`).
-#[derive(Clone, Copy, Debug, PartialEq, Eq)]
+#[derive(Clone, Copy)]
 pub struct Signal {
     /// The net bit.
     pub node: NodeId,

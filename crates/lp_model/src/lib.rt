@@ -116,6 +116,7 @@ pub use intent::SupplyNet;
 pub use intent::SupplyPort;
 pub use intent::SupplySet;
 pub use intent::TableRow;
+pub use laws::empty_slots_name_nothing;
 pub use laws::grown_names_keep_commands;
 pub use laws::grown_names_keep_groups;
 pub use laws::grown_names_keep_libraries;
@@ -176,6 +177,3 @@ pub use upf::UpfWord;
 pub use upf::WordForm;
 pub use upf::WordList;
 pub use view::View;
-
-#[cfg(test)]
-mod tests;

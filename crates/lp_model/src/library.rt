@@ -5,7 +5,7 @@ use lp_text::NameId;
 use sqlite_items::Items;
 
 /// The type of a power or ground pin (Liberty `pg_type`).
-#[derive(Clone, Copy, Debug, PartialEq, Eq)]
+#[derive(Clone, Copy)]
 pub enum PgKind {
     /// primary_power
     PrimaryPower,
@@ -50,7 +50,7 @@ pub struct PgPin {
 }
 
 /// What a retention pin does (Liberty `retention_pin`, its class).
-#[derive(Clone, Copy, Debug, PartialEq, Eq)]
+#[derive(Clone, Copy)]
 pub enum RetClass {
     /// It saves.
     Save,
@@ -61,7 +61,7 @@ pub enum RetClass {
 }
 
 /// When a control acts (Liberty `save_action` and `restore_action`; IEEE 1801-2015 set_retention, its senses).
-#[derive(Clone, Copy, Debug, PartialEq, Eq)]
+#[derive(Clone, Copy)]
 pub enum Action {
     /// While the control is 1 (H, high).
     High,
@@ -74,7 +74,7 @@ pub enum Action {
 }
 
 /// What a signal pin is for.
-#[derive(Clone, Copy, Debug, PartialEq, Eq)]
+#[derive(Clone, Copy)]
 pub enum PinUse {
     /// Nothing special.
     Plain,
@@ -112,7 +112,7 @@ pub struct Pin {
 }
 
 /// The kind of a state group.
-#[derive(Clone, Copy, Debug, PartialEq, Eq)]
+#[derive(Clone, Copy)]
 pub enum StateKind {
     /// Liberty `ff`.
     Flop,
@@ -142,7 +142,7 @@ pub struct StateGroup {
 }
 
 /// Which way a level shifter passes data (Liberty `level_shifter_type`).
-#[derive(Clone, Copy, Debug, PartialEq, Eq)]
+#[derive(Clone, Copy)]
 pub enum ShifterKind {
     /// LH: from a lower to a higher voltage.
     LowToHigh,

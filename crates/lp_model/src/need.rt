@@ -21,7 +21,7 @@ pub struct IsoNeed {
 }
 
 /// The voltages of a shifter's supplies in one choice of a row, in microvolts, each at most 10^12.
-#[derive(Clone, Copy, Debug, PartialEq, Eq)]
+#[derive(Clone, Copy)]
 pub struct VoltagePair {
     /// Of the supply of its data.
     pub input: u64,

@@ -3,7 +3,7 @@ use lp_text::NameId;
 use sqlite_items::Items;
 
 /// The direction of a port or a pin.
-#[derive(Clone, Copy, Debug, PartialEq, Eq)]
+#[derive(Clone, Copy, PartialEq)]
 pub enum Direction {
     /// Driven from outside.
     Input,
@@ -12,7 +12,7 @@ pub enum Direction {
 }
 
 /// The range of a vector, as in `[7:0]`: both indices belong to it (IEEE 1364-2005, vectors).
-#[derive(Clone, Copy, Debug, PartialEq, Eq)]
+#[derive(Clone, Copy)]
 pub struct BitRange {
     /// The left index, that of the most significant bit.
     pub left: u32,

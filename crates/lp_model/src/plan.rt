@@ -76,7 +76,7 @@ pub struct Plan {
 }
 
 /// What an added cell is for.
-#[derive(Clone, Copy, Debug, PartialEq, Eq)]
+#[derive(Clone, Copy)]
 pub enum AddedKind {
     /// The clamp of a plan entry, by its number.
     Clamp(u32),

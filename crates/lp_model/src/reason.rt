@@ -2,7 +2,7 @@ ghost use Rattle.std.specs.Prelude.{◌≡◌};
 ghost use Rattle.lp_model.specs.Reasons.{reason_word};
 
 /// Why a cell of a library cannot be used (own rule). A cell keeps the first of these that holds.
-#[derive(Clone, Copy, Debug, PartialEq, Eq)]
+#[derive(Clone, Copy)]
 pub enum Reason {
     /// The cell's name or a pin's name is empty or not visible ASCII, or the cell's begins with `lp_`.
     Name,

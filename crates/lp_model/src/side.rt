@@ -1,5 +1,5 @@
 /// Which domain's side of a boundary bit is meant (own rule).
-#[derive(Clone, Copy, Debug, PartialEq, Eq)]
+#[derive(Clone, Copy)]
 pub enum Side {
     /// The side of the boundary instance's own domain.
     Upper,
@@ -8,7 +8,7 @@ pub enum Side {
 }
 
 /// Where an operator stands (IEEE 1801-2015, `-location`).
-#[derive(Clone, Copy, Debug, PartialEq, Eq)]
+#[derive(Clone, Copy)]
 pub enum Location {
     /// self: on the upper side in the boundary instance, on the lower side in its parent.
     Own,

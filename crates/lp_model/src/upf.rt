@@ -31,7 +31,7 @@ pub struct WordList {
 }
 
 /// The word of a command (IEEE 1801-2015, the commands that are read).
-#[derive(Clone, Copy, Debug, PartialEq, Eq)]
+#[derive(Clone, Copy)]
 pub enum CommandWord {
     /// upf_version
     UpfVersion,
@@ -78,7 +78,7 @@ pub enum CommandWord {
 }
 
 /// The word of an option. An option whose word also goes with `_set` behind it is one option.
-#[derive(Clone, Copy, Debug, PartialEq, Eq)]
+#[derive(Clone, Copy)]
 pub enum OptionWord {
     /// -elements
     Elements,

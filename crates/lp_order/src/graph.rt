@@ -8,7 +8,7 @@ use std::marker::Model;
 /// What each key reads, for keys that are the numbers from 0: contracts see the list of the rows.
 ///
 /// The rows lie one behind another, so a row costs 8 bytes and a read 4.
-#[derive(Debug, Drop)]
+#[derive(Drop)]
 pub struct Graph {
     ends: Vec<usize>,
     flat: Vec<u32>,

@@ -6,6 +6,3 @@ mod walk;
 
 pub use graph::Graph;
 pub use walk::is_ordered;
-
-#[cfg(test)]
-mod tests;

@@ -8,7 +8,7 @@ use lp_text::NoMemory;
 use std::alloc::Global;
 
 /// How far a walk has come with a key.
-#[derive(Clone, Copy, Debug, PartialEq, Eq)]
+#[derive(Clone, Copy, PartialEq)]
 enum Mark {
     /// Not reached so far.
     New,
@@ -19,7 +19,7 @@ enum Mark {
 }
 
 /// A walk along the reads of a graph, depth first.
-#[derive(Debug, Drop)]
+#[derive(Drop)]
 struct Walk {
     /// How many reads of each key are still to be followed: those at the front of its row.
     unread: Vec<usize>,

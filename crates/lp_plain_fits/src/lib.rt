@@ -12,6 +12,3 @@ mod targets;
 pub use fit::is_fit;
 pub use single::is_single;
 pub use targets::unknown_target;
-
-#[cfg(test)]
-mod tests;

@@ -9,6 +9,3 @@ mod places;
 pub use cells::CellIndex;
 pub use laws::numbers_are_texts;
 pub use nets::NetIndex;
-
-#[cfg(test)]
-mod tests;

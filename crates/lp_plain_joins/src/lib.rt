@@ -8,6 +8,3 @@ mod ports;
 
 pub use laws::powered_is_well_formed;
 pub use netlist::connect_all;
-
-#[cfg(test)]
-mod tests;

@@ -8,6 +8,3 @@ mod pins;
 mod rows;
 
 pub use loops::has_loop;
-
-#[cfg(test)]
-mod tests;

@@ -9,6 +9,3 @@ mod spelled;
 
 pub use intent::{one_intent, read_intent};
 pub use plain::Intent;
-
-#[cfg(test)]
-mod tests;

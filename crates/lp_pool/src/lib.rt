@@ -8,8 +8,5 @@ mod pool;
 mod slots;
 
 pub use key::Key;
-pub use pair::pair_in;
+pub use pair::lend_pair;
 pub use pool::Pool;
-
-#[cfg(test)]
-mod tests;

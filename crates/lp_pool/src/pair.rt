@@ -10,8 +10,8 @@ use crate::slots::{Base, CHUNK};
 
 /// The records of two keys of the one pool in `row`, to write to. All other places stay.
 ///
-/// It is `Pool::pair_mut` for a caller whose proof is to know what the pool ends as: call it with `slice::from_mut(&mut pool)`.
-pub fn pair_in<T>(row: &mut [Pool<T>], a: Key<T>, b: Key<T>) -> (&mut T, &mut T)
+/// The pool is lent as a row of one, `slice::from_mut(&mut pool)`, so that the caller's proof knows what it ends as.
+pub fn lend_pair<T>(row: &mut [Pool<T>], a: Key<T>, b: Key<T>) -> (&mut T, &mut T)
     requires one { length row.old ≡ 1 }
     requires live { (a.place < length (sole row.old).items) × (b.place < length (sole row.old).items) }
     requires distinct { a.place ≢ b.place }

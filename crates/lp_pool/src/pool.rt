@@ -1,4 +1,4 @@
-ghost use Rattle.std.specs.Prelude.{◌≡◌, ◌≢◌, ◌+◌, ◌-◌, ◌*◌, ◌^◌, ◌<◌, ◌≤◌, [], ◌∷◌, ◌++◌, length, take, slice_index_or, IfOk, OnOk, OnErr, IsOk};
+ghost use Rattle.std.specs.Prelude.{◌≡◌, ◌+◌, ◌-◌, ◌*◌, ◌^◌, ◌<◌, ◌≤◌, [], ◌∷◌, ◌++◌, length, take, slice_index_or, IfOk, OnOk, OnErr, IsOk};
 ghost use Rattle.std.specs.Borrow.{sem};
 ghost use Rattle.std.specs.Vec.Ownership.{FitsInBlock};
 ghost use Rattle.lp_pool.specs.Places.{IsSpot, chunk};
@@ -6,7 +6,6 @@ ghost use Rattle.lp_pool.specs.Pool.{held, spare, with_record};
 
 use crate::chunk::Chunk;
 use crate::key::Key;
-use crate::pair::pair_in;
 use crate::slots::{Base, CHUNK, Records};
 use lp_text::NoMemory;
 use std::alloc::Global;
@@ -183,15 +182,6 @@ impl<T> Pool<T> {
     {
         let base = self.base_of(key);
         self.records.get_mut(base, key.place)
-    }
-
-    /// The records of two keys, to write to. All other places stay.
-    pub fn pair_mut(&mut self, a: Key<T>, b: Key<T>) -> (&mut T, &mut T)
-        requires live { (a.place < length self.old.items) × (b.place < length self.old.items) }
-        requires distinct { a.place ≢ b.place }
-        ensures values { (result.0.now ≡ slice_index_or self.old.items a.place result.0.now) × (result.1.now ≡ slice_index_or self.old.items b.place result.1.now) }
-    {
-        pair_in(std::slice::from_mut(self), a, b)
     }
 
     // Takes the last record out.

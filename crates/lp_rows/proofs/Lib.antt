@@ -1,4 +1,5 @@
 pub mod BelowLemmas
+mod Computed
 pub mod CutLemmas
 pub mod LeakLemmas
 pub mod LowerLemmas

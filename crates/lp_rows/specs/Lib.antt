@@ -2,3 +2,4 @@ pub mod Leaks
 pub mod Network
 pub mod Rows
 pub mod Voltages
+pub mod Laws

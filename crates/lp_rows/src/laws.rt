@@ -1,11 +1,10 @@
 //! Laws about the definitions alone: each is the clause of a function that does nothing.
-ghost use Rattle.std.specs.Prelude.{◌≡◌, ◌↔◌, IsTrue, ℕ, List, true, false, slice_set};
+ghost use Rattle.std.specs.Prelude.{◌≡◌, ◌↔◌, IsTrue, ℕ, List, false};
 ghost use Rattle.lp_model.specs.declared.intent.RowState.{RowState};
 ghost use Rattle.lp_model.specs.declared.supply.Supplies.{Supplies};
-ghost use Rattle.lp_tern.specs.declared.supply.SupplyState.{SupplyState};
-ghost use Rattle.lp_tern.specs.declared.supply.SupplyState.TheVariants.{Off};
 ghost use Rattle.lp_rows.specs.Network.{root_of};
-ghost use Rattle.lp_rows.specs.Rows.{lower_in, IsLowerByChoice, within_in};
+ghost use Rattle.lp_rows.specs.Rows.{lower_in, IsLowerByChoice};
+ghost use Rattle.lp_rows.specs.Laws.{PortsMayBeOff};
 
 /// No supply is below itself.
 pub fn the_same_is_never_lower()
@@ -24,5 +23,5 @@ pub fn choices_say_lower()
 
 /// A row that allows a tuple also allows it with one more port off.
 pub fn ports_may_be_off()
-    ensures { (s : Supplies) (row : List RowState) (tuple : List SupplyState) (place : ℕ) → within_in s row tuple ≡ true → within_in s row (slice_set tuple place Off) ≡ true }
+    ensures { PortsMayBeOff }
 {}

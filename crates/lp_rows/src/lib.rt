@@ -16,6 +16,3 @@ pub use leak::leak_row;
 pub use lower::lower_row;
 pub use margin::under;
 pub use tuple::within;
-
-#[cfg(test)]
-mod tests;

@@ -1,5 +1,5 @@
 -- A register with retention over its events, computed on a small design.
-use Rattle.std.proofs.Common.{◌≡◌, true, [], ◌∷◌, Option, Some, None, refl}
+use Rattle.std.proofs.Common.{◌≡◌, true, false, [], ◌∷◌, Option, Some, None, refl}
 use Rattle.std.specs.Prelude.{◌==◌, bytes_eq, if◌then◌else◌, codes, map, option_and_then}
 use Rattle.lp_tern.specs.declared.tern.Tern.{Tern}
 use Rattle.lp_tern.specs.declared.tern.Tern.TheVariants.{Zero, One, X}
@@ -9,7 +9,7 @@ use Rattle.lp_model.specs.declared.intent.Applies.TheVariants.{Outputs}
 use Rattle.lp_spec_design.specs.Nodes.{computing}
 use Rattle.lp_spec_design.specs.Intents.{Intent, AtInstance, AtCell}
 use Rattle.lp_spec_design.specs.Settled.{Assignment, Design, Event, output, computed}
-use Rattle.lp_spec_design.specs.Registers.{States, retention_winner, states_after}
+use Rattle.lp_spec_design.specs.Registers.{States, retention_winner, is_register, is_retained_register, states_after}
 use Rattle.lp_spec_design.specs.Samples.{registered, to, with_strategies, isolation, retaining, network, volts}
 use Rattle.lp_model.specs.NetlistView.{ConstBit, ByName, InstanceView, ModuleView}
 use Rattle.lp_spec_design.specs.Netlists.{Structure}
@@ -146,3 +146,16 @@ tied_at_first = refl
 tied_later : (states_after (record design { structure = tied; intent = with_strategies [] }) (Some (settled idle Zero)) (settled idle Zero) (states Zero X)).main (codes "u" ∷ []) (codes "r") ≡ Zero
 unfolding computing
 tied_later = refl
+
+-- the register is one, and retained; an instance that the design lacks is none
+register_held : is_register registered (codes "u" ∷ []) (codes "r") ≡ true
+register_held = refl
+
+register_kept : is_retained_register registered design.intent (codes "u" ∷ []) (codes "r") ≡ true
+register_kept = refl
+
+no_register : is_register registered (codes "u" ∷ []) (codes "z") ≡ false
+no_register = refl
+
+not_kept : is_retained_register registered (with_strategies []) (codes "u" ∷ []) (codes "r") ≡ false
+not_kept = refl

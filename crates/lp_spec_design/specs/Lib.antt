@@ -11,4 +11,5 @@ pub mod Settled
 pub mod Winners
 pub mod Reads
 pub mod Registers
+pub mod Runs
 pub mod Sees

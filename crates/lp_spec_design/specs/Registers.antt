@@ -1,5 +1,5 @@
 -- Retention winners, and the states of registers after an event under power intent (own rule, after IEEE 1801-2015 set_retention).
-use Rattle.std.specs.Prelude.{◌≡◌, ℕ, Bool, true, false, not, ◌&&◌, List, [], ◌∷◌, filter, Option, Some, None, if◌then◌else◌, bytes_eq}
+use Rattle.std.specs.Prelude.{ℕ, Bool, true, false, not, ◌&&◌, List, [], ◌∷◌, filter, Option, Some, None, is_some, if◌then◌else◌, bytes_eq}
 use Rattle.std.specs.List.{list_any}
 use Rattle.lp_tern.specs.declared.tern.Tern.{Tern}
 use Rattle.lp_tern.specs.declared.tern.Tern.TheVariants.{X}
@@ -14,7 +14,7 @@ use Rattle.lp_spec_design.specs.Graph.{numbered}
 use Rattle.lp_spec_design.specs.Intents.{Element, AtInstance, AtCell, AtPort, AtBit, Strategy, Intent}
 use Rattle.lp_spec_design.specs.Domains.{domain_of, primary_of, same_domain}
 use Rattle.lp_spec_design.specs.Winners.{same_kind, winner_among}
-use Rattle.lp_spec_design.specs.Settled.{Assignment, Registers, Design, Event, at, set_on, kept, function_value, pins_at, SettlesIntent}
+use Rattle.lp_spec_design.specs.Settled.{Assignment, Registers, Design, at, set_on, kept, function_value, pins_at}
 
 -- ---- retention winners
 
@@ -64,6 +64,20 @@ inserting (Some t) = if t.1.inserts then Some t.1 else None
 
 abbrev pub retention : Intent → Path → Name → Option Strategy
 retention i p x = inserting (retention_winner i p x)
+
+-- ---- registers
+
+-- a register: a cell instance whose cell has a state group
+abbrev pub holds_state : Option CellView → Bool
+holds_state None = false
+holds_state (Some c) = is_some c.state
+
+abbrev pub is_register : Structure → Path → Name → Bool
+is_register s p x = holds_state (cell_at s p x)
+
+-- a register with a retention winner that inserts
+abbrev pub is_retained_register : Structure → Intent → Path → Name → Bool
+is_retained_register s i p x = is_register s p x && is_some (retention i p x)
 
 -- ---- the next state of a cell (Liberty ff and latch)
 
@@ -118,18 +132,3 @@ states_after d last A s = record {
   main = λ p x. kept (primary_on d A p) (restored d last A (retention d.intent p x) (s.saved p x) (cell_after (cell_at d.structure p x) (pins_before d.structure last p x) (pins_at d.structure A p x) (s.main p x)));
   saved = λ p x. saved_after d last A (retention d.intent p x) (kept (primary_on d A p) (s.main p x)) (s.saved p x);
 }
-
--- ---- runs
-
--- an assignment for each event: it settles with the present states, and leads to the next ones
-abbrev pub IsRun : Design → Option Assignment → States → List Event → List Assignment → Type 0
-IsRun d last s [] [] = Unit {0}
-IsRun d last s (ev ∷ events) (A ∷ more) = SettlesIntent d ev s.main A × IsRun d (Some A) (states_after d last A s) events more
-IsRun d last s [] (A ∷ more) = ⊥
-IsRun d last s (ev ∷ events) [] = ⊥
-
--- there is a run, and it is the only one
-pub record RunsOnce (d : Design) (last : Option Assignment) (s : States) (events : List Event) : Type 0 where
-  pub run : List Assignment
-  pub is_run : IsRun d last s events run
-  pub only : (other : List Assignment) → IsRun d last s events other → other ≡ run

@@ -5,3 +5,4 @@ pub mod Joins
 pub mod Needs
 pub mod PowerDown
 pub mod Samples
+pub mod Laws

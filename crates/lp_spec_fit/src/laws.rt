@@ -1,16 +1,14 @@
 //! Laws that show that the definitions say what is meant: each is the clause of a function that does nothing.
-ghost use Rattle.std.specs.Prelude.{◌≡◌, ℕ, Bool, List, Some, None, true, false};
+ghost use Rattle.std.specs.Prelude.{◌≡◌, ℕ, Bool, List, Some, None, false};
 ghost use Rattle.std.specs.List.{list_any};
-ghost use Rattle.lp_model.specs.declared.supply.SetOrigins.{SetOrigins};
-ghost use Rattle.lp_model.specs.LibraryView.{CellView, ExprView};
-ghost use Rattle.lp_spec_fit.specs.Joins.{Joins};
-ghost use Rattle.lp_spec_fit.specs.PowerDown.{Onness, is_some_off, power_down_equals, power_down_where};
+ghost use Rattle.lp_model.specs.LibraryView.{CellView};
 ghost use Rattle.lp_spec_fit.specs.Choice.{IsChoice, choice};
+ghost use Rattle.lp_spec_fit.specs.Laws.{LostWithItsSupplies};
 
 /// A power-down function that passes the test for some supply sets is 1 exactly where one of them is not on, whichever
 /// origins are on.
 pub fn lost_with_its_supplies()
-    ensures { (c : CellView) (join : Joins) (sets : List SetOrigins) (e : ExprView) → power_down_equals c join sets (Some e) ≡ true → (on : Onness) → power_down_where c join e on ≡ is_some_off sets on }
+    ensures { LostWithItsSupplies }
 {}
 
 /// A cell that is chosen fits, no cell that fits has less area, and each earlier one that fits has more.

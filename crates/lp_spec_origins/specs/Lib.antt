@@ -4,3 +4,4 @@ pub mod Origins
 pub mod Samples
 pub mod Sets
 pub mod Used
+pub mod Laws

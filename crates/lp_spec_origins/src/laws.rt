@@ -1,8 +1,8 @@
 //! Laws that show that the definitions say what is meant: each is the clause of a function that does nothing.
-ghost use Rattle.std.specs.Prelude.{◌≡◌, ◌≤◌, ◌↔◌, ℕ, List, length, Some, IsTrue, true};
+ghost use Rattle.std.specs.Prelude.{◌≡◌, List, true};
 ghost use Rattle.lp_spec_origins.specs.Commands.{Supply, Command};
-ghost use Rattle.lp_spec_origins.specs.Groups.{Joined, connected, group_of, is_among, IsWhole};
-ghost use Rattle.lp_spec_origins.specs.Origins.{IsOneOrigin, origin_of};
+ghost use Rattle.lp_spec_origins.specs.Groups.{Joined, connected};
+ghost use Rattle.lp_spec_origins.specs.Laws.{AClosedGroupIsAll, OneOrigin, AWholeGroupIsClosed};
 
 /// What is connected is joined; each port and net is joined with itself, and joining goes both ways and on.
 pub fn joined_is_an_equivalence()
@@ -14,21 +14,17 @@ pub fn joined_is_an_equivalence()
 
 /// The group that is found from a port or net is all that is joined with it, where nothing leads out of that group.
 pub fn a_closed_group_is_all()
-    ensures { (commands : List Command) (fuel : ℕ) (a b : Supply) → IsWhole commands fuel a
-        → IsTrue (is_among b (group_of commands fuel a)) ↔ Joined commands a b }
+    ensures { AClosedGroupIsAll }
 {}
 
 /// Where nothing leads out of the group that is found from a port or net, an origin that is computed for it is its one
 /// origin.
 pub fn one_origin()
-    ensures { (commands : List Command) (fuel : ℕ) (a : Supply) (o : ℕ) → IsWhole commands fuel a
-        → origin_of commands fuel a ≡ Some o → IsOneOrigin commands a o }
+    ensures { OneOrigin }
 {}
 
 /// Nothing leads out of the group that is found from a port or net, where the fuel is the number of ports and nets: of a
 /// list that has all that some command connects, or more.
 pub fn a_whole_group_is_closed()
-    ensures { (commands : List Command) (all : List Supply) (fuel : ℕ) (a : Supply)
-        → ((x y : Supply) → connected commands x y ≡ true → is_among y all ≡ true)
-        → length all ≤ fuel → IsWhole commands fuel a }
+    ensures { AWholeGroupIsClosed }
 {}

@@ -12,11 +12,12 @@ use Rattle.lp_spec_design.specs.Intents.{SetNumber, SupplySet}
 use Rattle.lp_spec_design.specs.Domains.{start_rail, source_supply}
 use Rattle.lp_spec_design.specs.Chains.{rail_along, rail_after}
 use Rattle.lp_spec_design.specs.Settled.{Assignment, Design, Event, Registers, at, state_of, is_on, both_on, set_at, set_on, sets_under, is_under, kept, through, pin_named, output_by, output_of, node_equation, pins_at, rail_of}
+use Rattle.lp_spec_design.specs.Runs.{shown}
 use Rattle.lp_spec_pins.specs.Pins.{FromTop, Powered, PinAssignment, PinEvent, pair_on, signal_at, state_from, read_by, is_up, is_data, is_unfit, is_unfit_at, output_at, cell_output_at, top_input, signal_equation, pins_read}
+use Rattle.lp_spec_pins.specs.Runs.{shown_by_pins}
 use Rattle.lp_spec_plain.specs.Cells.{follows}
 use Rattle.lp_spec_plain.specs.Designs.{supply_at, driver_of, receiver_of, IsPlain}
 use Rattle.lp_spec_plain.specs.Carried.{Carries}
-use Rattle.lp_spec_plain.specs.Alike.{shown, shown_by_pins}
 use Rattle.lp_spec_plain.proofs.Down.{up_where_on}
 use Rattle.lp_spec_plain.proofs.Reading.{under_self, kept-lost, promises, pin_follows, apart_too, ports, driver_ports, receiver_ports, read_as_is, pins-same, output-same}
 

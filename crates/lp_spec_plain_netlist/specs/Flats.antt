@@ -1,6 +1,6 @@
 -- The design of a module with its cells and the two supply ports of its intent, and whether its keys have an order (own rule).
 use Rattle.std.specs.Prelude.{ℕ, List}
-use Rattle.lp_spec_settling.specs.Settling.{IsOrder, Covers, Reaches}
+use Rattle.lp_spec_settling.specs.Settling.{HasOrder, Reaches}
 use Rattle.lp_model.specs.NetlistView.{ModuleView}
 use Rattle.lp_model.specs.LibraryView.{CellView}
 use Rattle.lp_spec_design.specs.Keys.{Name}
@@ -15,8 +15,6 @@ flat_of cells m power gnd margin = record { cells = cells; source = m; power = p
 abbrev pub HasLoop : Flat → Type 0
 HasLoop f = (k : Key) × Reaches keys (reads (design_of f)) k k
 
--- an order of the keys that the equations under intent read
-pub record IsOrdered (f : Flat) : Type 0 where
-  pub order : List Key
-  pub is_order : IsOrder keys (reads (design_of f)) order
-  pub covers : Covers keys (reads (design_of f)) order
+-- the keys that the equations under intent read have an order
+abbrev pub IsOrdered : Flat → Type 0
+IsOrdered f = HasOrder keys (reads (design_of f))

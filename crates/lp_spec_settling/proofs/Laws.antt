@@ -1,8 +1,8 @@
 -- Where the keys have an order, exactly one assignment settles.
 use Rattle.std.specs.Prelude.{IsTrue}
-use Rattle.std.proofs.Common.{◌≡◌, Bool, true, false, ◌||◌, cond, List, [], ◌∷◌, ◌++◌, ◌⊎◌, inl, inr, ⊎_elim, refl, sym, ◌∙◌, ap, subst}
+use Rattle.std.proofs.Common.{◌≡◌, Bool, true, false, ◌||◌, cond, List, [], ◌∷◌, ◌⊎◌, inl, inr, refl, sym, ◌∙◌, ap, subst}
 use Rattle.std.proofs.lemmas.Bool.{or_cases, cases_Bool, both_ways, false≢true}
-use Rattle.lp_spec_settling.specs.Settling.{Keys, has, AllIn, IsOrder, Covers, IsWay, Reaches, LooksAt, Settles, SettlesOnce}
+use Rattle.lp_spec_settling.specs.Settling.{Keys, has, AllIn, IsOrder, Covers, HasOrder, IsWay, Reaches, LooksAt, Settles, SettlesOnce}
 
 or_left : (a b : Bool) → a ≡ true → (a || b) ≡ true
 or_left true b e = refl
@@ -127,11 +127,11 @@ module _ {K V : Type 0} (keys : Keys K) (blank : V) (reads : K → List K) (equa
       ]
 
   -- where an order exists there is exactly one assignment that settles
-  pub settles_once : (order : List K) → IsOrder keys reads order → Covers keys reads order → SettlesOnce equation
-  settles_once order o covers = record {
-    settled = assigned order;
-    settles = settled_at order o covers;
-    only = λ other s i k. agree other (assigned order) s (settled_at order o covers) order o covers k i;
+  pub settles_once : HasOrder keys reads → SettlesOnce equation
+  settles_once o = record {
+    settled = assigned o.order;
+    settles = settled_at o.order o.is_order o.covers;
+    only = λ other s i k. agree other (assigned o.order) s (settled_at o.order o.is_order o.covers) o.order o.is_order o.covers k i;
   }
 
   -- the assignment that settles does not depend on the order

@@ -27,6 +27,12 @@ module _ {K : Type 0} (keys : Keys K) where
   abbrev pub Covers : (K → List K) → List K → Type 0
   Covers reads order = (k : K) → has k order ≡ false → reads k ≡ []
 
+  -- an order of all keys that read anything
+  pub record HasOrder (reads : K → List K) : Type 0 where
+    pub order : List K
+    pub is_order : IsOrder reads order
+    pub covers : Covers reads order
+
   -- from one key to another by reads, over the keys on the way
   abbrev pub IsWay : (K → List K) → K → List K → K → Type 0
   IsWay reads k [] j = IsTrue (has j (reads k))

@@ -4,6 +4,3 @@
 mod stack;
 
 pub use stack::Stack;
-
-#[cfg(test)]
-mod tests;

@@ -4,6 +4,3 @@
 mod table;
 
 pub use table::{Table, all_distinct};
-
-#[cfg(test)]
-mod tests;

@@ -6,6 +6,3 @@ mod tern;
 
 pub use supply::{Rail, SupplyState, choose_supply, level};
 pub use tern::{Tern, choose, negate, rise};
-
-#[cfg(test)]
-mod tests;

@@ -4,7 +4,7 @@ ghost use Rattle.lp_tern.specs.Values.{choose_supply_of, level_of};
 use crate::tern::Tern;
 
 /// The state of a supply net or port.
-#[derive(Clone, Copy, Debug, PartialEq, Eq)]
+#[derive(Clone, Copy, PartialEq)]
 pub enum SupplyState {
     /// On, at a voltage in microvolts.
     On(u64),
@@ -15,7 +15,7 @@ pub enum SupplyState {
 }
 
 /// The side of a cell's supply that a net serves.
-#[derive(Clone, Copy, Debug, PartialEq, Eq)]
+#[derive(Clone, Copy)]
 pub enum Rail {
     /// The power side.
     Power,

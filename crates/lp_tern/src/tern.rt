@@ -2,7 +2,7 @@ ghost use Rattle.std.specs.Prelude.{◌≡◌};
 ghost use Rattle.lp_tern.specs.Values.{choose_of, negate_of, rise_of};
 
 /// The value of a signal.
-#[derive(Clone, Copy, Debug, PartialEq, Eq)]
+#[derive(Clone, Copy, PartialEq)]
 pub enum Tern {
     /// Low.
     Zero,

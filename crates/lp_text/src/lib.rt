@@ -13,6 +13,7 @@ mod never;
 mod place;
 mod shelf;
 mod store;
+mod stream;
 mod word;
 
 pub use bytes::Bytes;
@@ -26,6 +27,3 @@ pub use never::NeverFails;
 pub use place::Place;
 pub use shelf::{LIMIT, Shelf, ShelfFault};
 pub use word::Word;
-
-#[cfg(test)]
-mod tests;

@@ -46,6 +46,7 @@ pub fn class(language: Language, b: u8) -> u8
     }
 }
 
+/// Whether a byte is a blank of the language.
 #[inline]
 pub fn is_blank(language: Language, b: u8) -> bool
     ensures { result ≡ is_blank language b }
@@ -53,6 +54,7 @@ pub fn is_blank(language: Language, b: u8) -> bool
     class(language, b) == BLANK
 }
 
+/// Whether a byte may stand inside a word of the language.
 #[inline]
 pub fn is_inner(language: Language, b: u8) -> bool
     ensures { result ≡ is_inner language b }

@@ -7,6 +7,3 @@ mod token;
 
 pub use reading::{any_quoted, any_word, expect_mark, expect_word, next_token, only_blanks};
 pub use token::{Language, Token};
-
-#[cfg(test)]
-mod tests;

@@ -1,5 +1,5 @@
 /// The languages that are read by tokens.
-#[derive(Clone, Copy, Debug, PartialEq, Eq)]
+#[derive(Clone, Copy)]
 pub enum Language {
     /// Liberty: words are runs of ASCII characters, and strings stand in double quotes.
     Liberty,
@@ -8,7 +8,7 @@ pub enum Language {
 }
 
 /// A token of a text.
-#[derive(Clone, Copy, Debug)]
+#[derive(Clone, Copy)]
 pub enum Token<'a> {
     /// A word: the longest run of bytes that words have.
     Word(&'a [u8]),

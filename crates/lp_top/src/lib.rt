@@ -12,6 +12,3 @@ mod words;
 pub use design::{Fault, Refusal, Written, insert_design};
 pub use outcome::{Outcome, UsageFault, status};
 pub use running::run;
-
-#[cfg(test)]
-mod tests;

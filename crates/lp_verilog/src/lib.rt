@@ -11,6 +11,3 @@ pub use laws::{
     refused_reads_nothing,
 };
 pub use netlist::read_netlist;
-
-#[cfg(test)]
-mod tests;

@@ -135,10 +135,16 @@ use_instance sides.Connection name = Stops (offs.Duplicate name)
 abbrev pub settle : Entries → NameId → Entry → Entries
 settle es name e = if e.fixed then es else put es name (record { kind = e.kind; direction = e.direction; range = e.range; fixed = true; wired = e.wired; at = e.at })
 
+-- a port that the header lists alone becomes a scalar, but on a right side
+abbrev pub use_net : Side → Entries → NameId → Entry → Verdict Entries
+use_net sides.Right es name e = if e.fixed then Goes es else Stops offs.Syntax
+use_net sides.Left es name e = Goes (settle es name e)
+use_net sides.Connection es name e = Goes (settle es name e)
+
 abbrev pub use_old : Kind → Side → Entries → NameId → Entry → Verdict Entries
 use_old kinds.Instance side es name e = use_instance side name
-use_old kinds.Port side es name e = Goes (settle es name e)
-use_old kinds.Wire side es name e = Goes (settle es name e)
+use_old kinds.Port side es name e = use_net side es name e
+use_old kinds.Wire side es name e = use_net side es name e
 
 -- a name in a value: what is not declared becomes a scalar wire, but on a right side
 abbrev pub use_by : Side → ℕ → Entries → NameId → Option Entry → Verdict Entries

@@ -43,6 +43,7 @@ fn index_at(up: bool, first: u32, steps: u32) -> u32
 }
 
 impl BitList {
+    /// No bits yet.
     pub fn new(alloc: Global) -> BitList
         ensures { result ≡ [] }
     {
@@ -51,6 +52,7 @@ impl BitList {
         }
     }
 
+    /// Puts a bit behind the others, or there is no memory.
     pub fn push(&mut self, bit: Bit) -> Result<(), NoMemory>
         ensures { OnOk result (self.new ≡ self.old ++ bit ∷ []) }
     {

@@ -1,5 +1,5 @@
 ghost use Rattle.std.specs.Prelude.{◌≡◌};
-ghost use Rattle.lp_verilog_draft.specs.Scopes.{declare, same_range, agrees, add_new, give_direction, give_wire, headed, wire, listed, use_new, use_instance, use_old, use_by, use_name, settle, range_in, instance_entry, found};
+ghost use Rattle.lp_verilog_draft.specs.Scopes.{declare, same_range, agrees, add_new, give_direction, give_wire, headed, wire, listed, use_new, use_instance, use_net, use_old, use_by, use_name, settle, range_in, instance_entry, found};
 ghost use Rattle.lp_verilog_draft.specs.Verdicts.{Gives};
 
 use crate::scope::{Entry, Kind, Scope};
@@ -9,7 +9,7 @@ use lp_model::{BitRange, Direction};
 use lp_text::NameId;
 
 /// What a declaration declares.
-#[derive(Clone, Copy, Debug, PartialEq, Eq)]
+#[derive(Clone, Copy)]
 pub enum Form {
     /// Ports in a header.
     Header,
@@ -20,7 +20,7 @@ pub enum Form {
 }
 
 /// The declaration that is read.
-#[derive(Clone, Copy, Debug)]
+#[derive(Clone, Copy)]
 pub struct Declaring {
     pub form: Form,
     pub direction: Direction,
@@ -56,7 +56,7 @@ impl Declaring {
         ensures { Gives result scope.new (give_direction self.now scope.old name old) }
     {
         match old {
-            Some(entry) if entry.kind == Kind::Port => {
+            Some(entry) if matches!(entry.kind, Kind::Port) => {
                 if entry.direction.is_none() && self.agrees(&entry) {
                     scope.put(
                         name,
@@ -91,7 +91,7 @@ impl Declaring {
                 Ok(())
             }
             Some(entry) => {
-                if entry.kind == Kind::Port && (!entry.wired && self.agrees(&entry)) {
+                if matches!(entry.kind, Kind::Port) && (!entry.wired && self.agrees(&entry)) {
                     scope.put(
                         name,
                         Entry {
@@ -152,6 +152,7 @@ impl Entry {
         }
     }
 
+    /// A wire whose name begins at this byte of the text.
     pub fn wire(range: Option<BitRange>, at: usize) -> Entry
         ensures { result ≡ wire range at }
     {
@@ -165,6 +166,7 @@ impl Entry {
         }
     }
 
+    /// An instance whose name begins at this byte of the text.
     pub fn instance(at: usize) -> Entry
         ensures { result ≡ instance_entry at }
     {
@@ -211,16 +213,16 @@ impl Scope {
         match (entry.kind, side) {
             (Kind::Instance, Side::Right) => Err(Stop::Off(Off::Syntax)),
             (Kind::Instance, _) => Err(Stop::Off(Off::Duplicate(name))),
+            _ if entry.fixed => Ok(()),
+            (_, Side::Right) => Err(Stop::Off(Off::Syntax)),
             _ => {
-                if !entry.fixed {
-                    self.put(
-                        name,
-                        Entry {
-                            fixed: true,
-                            ..entry
-                        },
-                    )?;
-                }
+                self.put(
+                    name,
+                    Entry {
+                        fixed: true,
+                        ..entry
+                    },
+                )?;
                 Ok(())
             }
         }

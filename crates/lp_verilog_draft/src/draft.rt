@@ -24,6 +24,7 @@ pub struct Joint {
 }
 
 impl Joint {
+    /// No instance yet.
     pub fn new(alloc: Global) -> Joint
         ensures { result ≡ no_joint }
     {
@@ -37,6 +38,7 @@ impl Joint {
         }
     }
 
+    /// The instance of this name, of the target that stands, by name until a position is met.
     pub fn begin(&mut self, name: NameId)
         ensures { self.new ≡ joint_begun name self.old }
     {
@@ -44,6 +46,7 @@ impl Joint {
         self.positional = false;
     }
 
+    /// The connections of this instance go by position.
     pub fn set_positional(&mut self)
         ensures { self.new ≡ joint_positional self.old }
     {
@@ -99,6 +102,7 @@ pub struct Draft {
 }
 
 impl Draft {
+    /// A module of this name, with nothing in it.
     pub fn new(alloc: Global, name: NameId) -> Draft
         ensures { result ≡ module_named name }
     {
@@ -110,6 +114,7 @@ impl Draft {
         }
     }
 
+    /// Puts an instance behind the others, or there is no memory.
     pub fn push_instance(&mut self, instance: Instance) -> Result<(), NoMemory>
         ensures { OnOk result (self.new ≡ with_instance instance self.old) }
     {
@@ -117,6 +122,7 @@ impl Draft {
         Ok(())
     }
 
+    /// Puts an assign behind the others, or there is no memory.
     pub fn push_assign(&mut self, left: Bits, right: Bits) -> Result<(), NoMemory>
         ensures { OnOk result (self.new ≡ with_assign left right self.old) }
     {

@@ -11,7 +11,7 @@ use std::alloc::Global;
 use std::marker::Model;
 
 /// What a name of a module stands for.
-#[derive(Clone, Copy, Debug, PartialEq, Eq)]
+#[derive(Clone, Copy)]
 pub enum Kind {
     Port,
     Wire,
@@ -19,7 +19,7 @@ pub enum Kind {
 }
 
 /// A declaration of a module.
-#[derive(Clone, Copy, Debug)]
+#[derive(Clone, Copy)]
 pub struct Entry {
     pub kind: Kind,
     /// The direction of a port, once it is given.
@@ -50,6 +50,7 @@ impl Model for Scope {
 }
 
 impl Scope {
+    /// A scope without names.
     pub fn new(alloc: Global) -> Scope
         ensures { result ≡ [] }
     {
@@ -153,7 +154,7 @@ fn net_of(name: u32, entry: Entry) -> Option<NetDecl>
 fn lacks_direction(entry: Entry) -> bool
     ensures { result ≡ lacks_direction entry }
 {
-    entry.kind == Kind::Port && entry.direction.is_none()
+    matches!(entry.kind, Kind::Port) && entry.direction.is_none()
 }
 
 /// Puts a value behind others, if there is one.

@@ -2,7 +2,7 @@ use lp_text::{NameId, NoMemory};
 use std::alloc::{AllocError, AllocFailed};
 
 /// How a text leaves the netlists that are read.
-#[derive(Clone, Copy, Debug, PartialEq, Eq)]
+#[derive(Clone, Copy)]
 pub enum Off {
     /// The token cannot stand there.
     Syntax,
@@ -15,7 +15,7 @@ pub enum Off {
 }
 
 /// Why a step is not taken.
-#[derive(Clone, Copy, Debug, PartialEq, Eq)]
+#[derive(Clone, Copy)]
 pub enum Stop {
     Off(Off),
     /// An allocation was refused.

@@ -10,7 +10,7 @@ use lp_text::{NameId, NoMemory};
 use std::alloc::Global;
 
 /// Where a value stands.
-#[derive(Clone, Copy, Debug, PartialEq, Eq)]
+#[derive(Clone, Copy)]
 pub enum Side {
     /// On the left side of an assignment.
     Left,
@@ -51,6 +51,7 @@ fn goes_along(range: BitRange, first: u32, second: u32) -> bool
 }
 
 impl Value {
+    /// No value yet.
     pub fn new(alloc: Global) -> Value
         ensures { result ≡ no_value }
     {
@@ -63,12 +64,14 @@ impl Value {
         }
     }
 
+    /// Says where the values that follow stand.
     pub fn set_side(&mut self, side: Side)
         ensures { self.new ≡ value_side side self.old }
     {
         self.side = side;
     }
 
+    /// The name that the value goes on with, and its range where it is a vector.
     pub fn set_subject(&mut self, name: NameId, range: Option<BitRange>)
         ensures { self.new ≡ value_subject name range self.old }
     {
@@ -139,7 +142,7 @@ impl Value {
     pub fn push_constant(&mut self, size: u8, value: u128) -> Result<(), Stop>
         ensures { Gives result self.new (value_constant size value self.old) }
     {
-        if self.side == Side::Left {
+        if matches!(self.side, Side::Left) {
             return Err(Stop::Off(Off::Syntax));
         }
         self.bits.push_constant(size, value)?;

@@ -8,7 +8,7 @@ use crate::symbol::{Action, Symbol};
 use lp_verilog_tokens::{Keyword, Mark, Token};
 
 /// What a token does where a symbol has to come, and the symbols that follow it.
-#[derive(Clone, Copy, Debug)]
+#[derive(Clone, Copy)]
 pub(crate) struct Production {
     pub(crate) action: Action,
     pub(crate) follow: &'static [Symbol],

@@ -22,6 +22,7 @@ impl Model for NameSet {
 }
 
 impl NameSet {
+    /// The empty set.
     pub fn new(alloc: Global) -> NameSet
         ensures { result ≡ [] }
     {
@@ -30,12 +31,14 @@ impl NameSet {
         }
     }
 
+    /// Whether a name is in the set.
     pub fn has(&self, name: NameId) -> bool
         ensures { result ≡ list_any (nat_eq name.0) self.now }
     {
         self.names.contains(&name.0)
     }
 
+    /// Puts a name into the set, or there is no memory.
     pub fn add(&mut self, name: NameId) -> Result<(), NoMemory>
         ensures { OnOk result (self.new ≡ insert_key nat_eq self.old name.0) }
     {

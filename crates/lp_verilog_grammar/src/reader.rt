@@ -35,6 +35,7 @@ pub struct Reader {
 }
 
 impl Reader {
+    /// A reader at the front of a text, or there is no memory.
     pub fn new(alloc: Global) -> Result<Reader, NoMemory>
         ensures { IfOk result (λ m. m ≡ start) }
     {
@@ -57,6 +58,7 @@ impl Reader {
         })
     }
 
+    /// The name of a module: off the form where the token is none, a duplicate where a module has it.
     pub fn begin_module(&mut self, alloc: Global, token: Token) -> Result<(), Stop>
         ensures { Gives result self.new (begin_module self.old token) }
     {
@@ -73,6 +75,8 @@ impl Reader {
         }
     }
 
+    /// A port of the header, whose name begins at this byte: off the form where the token is none, a duplicate where
+    /// the header has it.
     pub fn list_port(&mut self, at: usize, token: Token) -> Result<(), Stop>
         ensures { Gives result self.new (list_port self.old at token) }
     {
@@ -82,6 +86,7 @@ impl Reader {
         }
     }
 
+    /// What the names that follow are declared as, without a range so far.
     pub fn declare_as(&mut self, form: Form, direction: Direction)
         ensures { self.new ≡ declaring_as self.old form direction }
     {
@@ -93,6 +98,7 @@ impl Reader {
         };
     }
 
+    /// The direction of the names that follow: off the form where the token is none.
     pub fn give_direction(&mut self, form: Form, token: Token) -> Result<(), Stop>
         ensures { Gives result self.new (give_direction self.old form token) }
     {
@@ -109,6 +115,7 @@ impl Reader {
         }
     }
 
+    /// A name of a declaration, which begins at this byte: off the form or a duplicate as `Declaring` says.
     pub fn declare_name(&mut self, at: usize, token: Token) -> Result<(), Stop>
         ensures { Gives result self.new (declare_name self.old at token) }
     {
@@ -118,6 +125,7 @@ impl Reader {
         }
     }
 
+    /// Puts the module behind the others: off the form where a port of it has no direction.
     pub fn finish_module(&mut self, alloc: Global) -> Result<(), Stop>
         ensures { Gives result self.new (finish_module self.old) }
     {
@@ -126,6 +134,7 @@ impl Reader {
         Ok(())
     }
 
+    /// The left bound of a range: off the form where the token is no number of 32 bits.
     pub fn left_bound(&mut self, token: Token) -> Result<(), Stop>
         ensures { Gives result self.new (left_bound self.old token) }
     {
@@ -138,6 +147,7 @@ impl Reader {
         }
     }
 
+    /// The right bound of a range: off the form where the token is no number of 32 bits.
     pub fn right_bound(&mut self, token: Token) -> Result<(), Stop>
         ensures { Gives result self.new (right_bound self.old token) }
     {
@@ -153,6 +163,7 @@ impl Reader {
         }
     }
 
+    /// The target of the instances that follow: off the form where the token is no name.
     pub fn give_target(&mut self, token: Token) -> Result<(), Stop>
         ensures { Gives result self.new (give_target self.old token) }
     {
@@ -165,6 +176,8 @@ impl Reader {
         }
     }
 
+    /// The name of an instance, which begins at this byte: off the form where the token is none, a duplicate where
+    /// the module has it.
     pub fn begin_instance(&mut self, at: usize, token: Token) -> Result<(), Stop>
         ensures { Gives result self.new (begin_instance self.old at token) }
     {
@@ -179,6 +192,7 @@ impl Reader {
         }
     }
 
+    /// Puts the instance behind the others of its module, or there is no memory.
     pub fn end_instance(&mut self, alloc: Global) -> Result<(), NoMemory>
         ensures { OnOk result (self.new ≡ end_instance self.old) }
     {
@@ -186,6 +200,7 @@ impl Reader {
         self.draft.push_instance(instance)
     }
 
+    /// Makes the value a connection by position, or there is no memory.
     pub fn end_ordered(&mut self, alloc: Global) -> Result<(), NoMemory>
         ensures { OnOk result (self.new ≡ end_ordered self.old) }
     {
@@ -193,6 +208,7 @@ impl Reader {
         self.joint.push_ordered(bits)
     }
 
+    /// Makes the value the connection of the port that was named, or there is no memory.
     pub fn end_named(&mut self, alloc: Global) -> Result<(), NoMemory>
         ensures { OnOk result (self.new ≡ end_named self.old) }
     {
@@ -200,6 +216,7 @@ impl Reader {
         self.joint.push_named(bits)
     }
 
+    /// The port that a connection names: off the form where the token is no name.
     pub fn give_port(&mut self, token: Token) -> Result<(), Stop>
         ensures { Gives result self.new (give_port self.old token) }
     {
@@ -212,6 +229,7 @@ impl Reader {
         }
     }
 
+    /// Makes the value the left side of an assign, or there is no memory.
     pub fn end_left(&mut self, alloc: Global) -> Result<(), NoMemory>
         ensures { OnOk result (self.new ≡ end_left self.old) }
     {
@@ -220,6 +238,7 @@ impl Reader {
         Ok(())
     }
 
+    /// Makes the value the right side and puts the assign behind the others, or there is no memory.
     pub fn end_assign(&mut self, alloc: Global) -> Result<(), NoMemory>
         ensures { OnOk result (self.new ≡ end_assign self.old) }
     {
@@ -228,6 +247,8 @@ impl Reader {
         self.draft.push_assign(left, right)
     }
 
+    /// The front of a value at this byte: a name, a constant or a brace; off the form, or a duplicate, as `Scope`
+    /// says.
     pub fn start_value(&mut self, at: usize, token: Token) -> Result<(), Stop>
         ensures { Gives result self.new (start_value self.old at token) }
     {
@@ -244,6 +265,7 @@ impl Reader {
         }
     }
 
+    /// The index of a select: off the form where the token is no number in the range of the vector.
     pub fn give_index(&mut self, token: Token) -> Result<(), Stop>
         ensures { Gives result self.new (give_index self.old token) }
     {
@@ -253,6 +275,7 @@ impl Reader {
         }
     }
 
+    /// The second index of a select: off the form where it is out of the range or against its direction.
     pub fn give_second(&mut self, token: Token) -> Result<(), Stop>
         ensures { Gives result self.new (give_second self.old token) }
     {

@@ -23,7 +23,7 @@ fn takes_value(symbol: Symbol) -> bool
 fn unread_at(symbol: Symbol, side: Side) -> Off
     ensures { result ≡ unread_at symbol side }
 {
-    if takes_value(symbol) && side != Side::Left {
+    if takes_value(symbol) && !matches!(side, Side::Left) {
         Off::Unsupported
     } else {
         Off::Syntax
@@ -172,6 +172,6 @@ impl Reader {
     pub fn accepts(&self) -> bool
         ensures { result ≡ accepts self.now }
     {
-        self.waiting.top() == Some(Symbol::Source)
+        matches!(self.waiting.top(), Some(Symbol::Source))
     }
 }

@@ -1,7 +1,7 @@
 use lp_verilog_tokens::Mark;
 
 /// What a netlist text has to go on with: a symbol of the grammar.
-#[derive(Clone, Copy, Debug, PartialEq, Eq)]
+#[derive(Clone, Copy)]
 pub enum Symbol {
     /// Modules, up to the end of the text.
     Source,
@@ -70,7 +70,7 @@ pub enum Symbol {
 }
 
 /// What a token does to the netlist.
-#[derive(Clone, Copy, Debug, PartialEq, Eq)]
+#[derive(Clone, Copy)]
 pub enum Action {
     /// Nothing.
     Pass,

@@ -7,7 +7,7 @@ ghost use Rattle.lp_verilog_tokens.specs.declared.gap.GapMode.TheVariants.{Betwe
 use crate::bytes::{inner_len, is_blank};
 
 /// What stands between tokens beside blanks.
-#[derive(Clone, Copy, Debug, PartialEq, Eq)]
+#[derive(Clone, Copy)]
 pub enum Inside {
     /// A comment or a directive to the end of its line.
     Line,
@@ -18,7 +18,7 @@ pub enum Inside {
 }
 
 /// Where the next byte of a gap stands.
-#[derive(Clone, Copy, Debug, PartialEq, Eq)]
+#[derive(Clone, Copy)]
 pub enum GapMode {
     /// Among blanks, and whether only blanks stand before it on its line.
     Between(bool),

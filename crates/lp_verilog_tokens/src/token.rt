@@ -1,7 +1,7 @@
 use lp_text::NameId;
 
 /// A token of one byte.
-#[derive(Clone, Copy, Debug, PartialEq, Eq)]
+#[derive(Clone, Copy, PartialEq, Eq)]
 pub enum Mark {
     /// `(`
     Open,
@@ -28,7 +28,7 @@ pub enum Mark {
 }
 
 /// A reserved word that is read.
-#[derive(Clone, Copy, Debug, PartialEq, Eq)]
+#[derive(Clone, Copy)]
 pub enum Keyword {
     Module,
     EndModule,
@@ -39,7 +39,7 @@ pub enum Keyword {
 }
 
 /// A token of a netlist text.
-#[derive(Clone, Copy, Debug, PartialEq, Eq)]
+#[derive(Clone, Copy)]
 pub enum Token {
     /// A token of one byte.
     Mark(Mark),
@@ -60,7 +60,7 @@ pub enum Token {
 }
 
 /// A token whose name, if it is one, has no number yet.
-#[derive(Clone, Copy, Debug)]
+#[derive(Clone, Copy)]
 pub enum Lexeme<'a> {
     /// A name.
     Named(&'a str),
@@ -69,7 +69,7 @@ pub enum Lexeme<'a> {
 }
 
 /// The token that a text begins with.
-#[derive(Clone, Copy, Debug)]
+#[derive(Clone, Copy)]
 pub struct Piece<'a> {
     /// How many bytes stand before it.
     pub gap: usize,
@@ -79,7 +79,7 @@ pub struct Piece<'a> {
 }
 
 /// The token at the very front of a text.
-#[derive(Clone, Copy, Debug)]
+#[derive(Clone, Copy)]
 pub(crate) enum Front<'a> {
     /// A token, and how many bytes it has.
     Whole(usize, Lexeme<'a>),

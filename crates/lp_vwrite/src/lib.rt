@@ -13,6 +13,3 @@ pub use laws::{
     example_is_well_formed, numbered_has_table, read_is_sound, reads_back, short_has_table,
 };
 pub use netlist::write_netlist;
-
-#[cfg(test)]
-mod tests;

@@ -5,7 +5,7 @@ use crate::fault::refs::{EntryRef, PartRef, PoweredRef, ReaderRef};
 use crate::ids::LeafId;
 
 /// Why a powered netlist of another maker is not what the intent asks for.
-#[derive(Clone, Copy, Debug)]
+#[derive(Clone, Copy)]
 pub enum CheckFault {
     /// C1: An instance, a cell or a port of the source is missing or another, or a module instance is too many.
     Instance {

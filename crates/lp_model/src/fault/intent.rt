@@ -4,7 +4,7 @@ ghost use Rattle.lp_model.specs.FaultWords.{intent_fault_word, intent_limit_numb
 use lp_text::{NameId, Place};
 
 /// What a power intent has too much of.
-#[derive(Clone, Copy, Debug)]
+#[derive(Clone, Copy)]
 pub enum IntentLimit {
     /// Bytes of the text: 67,108,864.
     Bytes,
@@ -31,7 +31,7 @@ impl IntentLimit {
 }
 
 /// What is loaded too much of.
-#[derive(Clone, Copy, Debug)]
+#[derive(Clone, Copy)]
 pub enum LoadLimit {
     /// Files: 256.
     Loads,
@@ -52,7 +52,7 @@ impl LoadLimit {
 }
 
 /// A fault of the text of the power intent and of its names.
-#[derive(Clone, Copy, Debug)]
+#[derive(Clone, Copy)]
 pub enum IntentFault {
     /// F30: The text leaves the form of its commands, or a required option is missing.
     Syntax {

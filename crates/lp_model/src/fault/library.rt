@@ -4,7 +4,7 @@ ghost use Rattle.lp_model.specs.FaultWords.{library_fault_word};
 use lp_text::{NameId, Place};
 
 /// A fault of the library texts.
-#[derive(Clone, Copy, Debug)]
+#[derive(Clone, Copy)]
 pub enum LibraryFault {
     /// F01: The text leaves the form of a library.
     Syntax {

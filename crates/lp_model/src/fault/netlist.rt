@@ -6,7 +6,7 @@ use crate::reason::Reason;
 use lp_text::{NameId, Place};
 
 /// An instance of a module.
-#[derive(Clone, Copy, Debug)]
+#[derive(Clone, Copy)]
 pub struct InstanceRef {
     /// The name of the module in which it stands.
     pub parent: NameId,
@@ -15,7 +15,7 @@ pub struct InstanceRef {
 }
 
 /// The connection of an unknown pin.
-#[derive(Clone, Copy, Debug)]
+#[derive(Clone, Copy)]
 pub enum PinRef {
     /// A named one.
     Named(NameId),
@@ -24,7 +24,7 @@ pub enum PinRef {
 }
 
 /// What joins two values.
-#[derive(Clone, Copy, Debug)]
+#[derive(Clone, Copy)]
 pub enum JoinRef {
     /// A connection of an instance, and the port or pin.
     Connection(NameId, NameId),
@@ -33,7 +33,7 @@ pub enum JoinRef {
 }
 
 /// What a netlist has too much of.
-#[derive(Clone, Copy, Debug)]
+#[derive(Clone, Copy)]
 pub enum NetlistLimit {
     /// Bytes of the text: 67,108,864.
     Bytes,
@@ -63,7 +63,7 @@ impl NetlistLimit {
 }
 
 /// Why a source may not instantiate a cell.
-#[derive(Clone, Copy, Debug)]
+#[derive(Clone, Copy)]
 pub enum UnfitReason {
     /// The cell is unusable.
     Unusable(Reason),
@@ -96,7 +96,7 @@ impl UnfitReason {
 }
 
 /// A fault of the netlist text and of its elaboration.
-#[derive(Clone, Copy, Debug)]
+#[derive(Clone, Copy)]
 pub enum NetlistFault {
     /// F10: The text leaves the form of a netlist.
     Syntax {

@@ -1,7 +1,7 @@
 use crate::ids::{EdgeId, InstId, LeafId, NodeId, OriginId, StrategyId};
 
 /// Where a strategy acts.
-#[derive(Clone, Copy, Debug)]
+#[derive(Clone, Copy)]
 pub enum Site {
     /// A boundary bit, by its edge.
     Bit(EdgeId),
@@ -10,7 +10,7 @@ pub enum Site {
 }
 
 /// What drives a reader.
-#[derive(Clone, Copy, Debug)]
+#[derive(Clone, Copy)]
 pub enum DriverRef {
     /// A pin of a cell instance, by its place among the cell's pins.
     Pin(LeafId, u8),
@@ -21,7 +21,7 @@ pub enum DriverRef {
 }
 
 /// What reads a driver.
-#[derive(Clone, Copy, Debug)]
+#[derive(Clone, Copy)]
 pub enum ReaderRef {
     /// The data of a clamp, by the edge of its boundary bit.
     Clamp(EdgeId),
@@ -32,7 +32,7 @@ pub enum ReaderRef {
 }
 
 /// What a control is for.
-#[derive(Clone, Copy, Debug)]
+#[derive(Clone, Copy)]
 pub enum ControlRef {
     /// A strategy.
     Strategy(StrategyId),
@@ -41,7 +41,7 @@ pub enum ControlRef {
 }
 
 /// What a cell is inserted for.
-#[derive(Clone, Copy, Debug)]
+#[derive(Clone, Copy)]
 pub enum EntryRef {
     /// A boundary bit, by its edge, and the strategy.
     Bit(EdgeId, StrategyId),
@@ -52,7 +52,7 @@ pub enum EntryRef {
 }
 
 /// A part in which a source and a powered netlist differ.
-#[derive(Clone, Copy, Debug)]
+#[derive(Clone, Copy)]
 pub enum PartRef {
     /// A module instance of the source.
     Inst(InstId),
@@ -65,7 +65,7 @@ pub enum PartRef {
 }
 
 /// A supply that a powered netlist has otherwise or lacks.
-#[derive(Clone, Copy, Debug)]
+#[derive(Clone, Copy)]
 pub enum PoweredRef {
     /// A pg_pin of a cell instance of the powered netlist, by its place in the cell's list.
     Pin(LeafId, u8),

@@ -13,7 +13,7 @@ use lp_text::NoMemory;
 use std::alloc::{AllocError, AllocFailed};
 
 /// A fault of the inputs of an insertion, whose number begins with F.
-#[derive(Clone, Copy, Debug)]
+#[derive(Clone, Copy)]
 pub enum DesignFault {
     /// Of the libraries.
     Library(LibraryFault),
@@ -43,7 +43,7 @@ impl DesignFault {
 }
 
 /// A fault of the inputs. What its fields count is said at each field; names are numbers of a table of names.
-#[derive(Clone, Copy, Debug)]
+#[derive(Clone, Copy)]
 pub enum Fault {
     /// Of the inputs of an insertion.
     Design(DesignFault),
@@ -115,7 +115,7 @@ fn is_plain_netlist(fault: &NetlistFault) -> bool
 }
 
 /// Why a call gives no answer.
-#[derive(Clone, Copy, Debug)]
+#[derive(Clone, Copy)]
 pub enum Refusal {
     /// The inputs have this fault.
     Fault(Fault),

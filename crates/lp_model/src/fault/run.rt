@@ -5,7 +5,7 @@ use crate::ids::{LeafId, NodeId, OriginId};
 use lp_text::NameId;
 
 /// A fault of the text of events.
-#[derive(Clone, Copy, Debug)]
+#[derive(Clone, Copy)]
 pub enum EventFault {
     /// V1: A line leaves the form of events.
     Syntax {
@@ -70,7 +70,7 @@ impl EventFault {
 }
 
 /// A fault of a netlist that is simulated by its pins.
-#[derive(Clone, Copy, Debug)]
+#[derive(Clone, Copy)]
 pub enum PinFault {
     /// P1: A pg_pin has no supply.
     PinUnsupplied {
@@ -105,7 +105,7 @@ impl PinFault {
 }
 
 /// A fault of a generated design.
-#[derive(Clone, Copy, Debug)]
+#[derive(Clone, Copy)]
 pub enum GeneratorFault {
     /// G1: The number of blocks is not from 1 to 2,000.
     OutOfRange {

@@ -6,7 +6,7 @@ use crate::ids::{EdgeId, LeafId, NodeId, StrategyId};
 use crate::intent::Element;
 
 /// A fault of strategies: what they ask for cannot be done, or is not enough.
-#[derive(Clone, Copy, Debug)]
+#[derive(Clone, Copy)]
 pub enum StrategyFault {
     /// F21: A node depends on itself.
     Loop {

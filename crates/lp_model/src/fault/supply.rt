@@ -6,7 +6,7 @@ use crate::intent::ScopedName;
 use lp_text::NameId;
 
 /// A supply that lacks an origin.
-#[derive(Clone, Copy, Debug)]
+#[derive(Clone, Copy)]
 pub enum SupplyRef {
     /// A supply set.
     Set(SetId),
@@ -17,7 +17,7 @@ pub enum SupplyRef {
 }
 
 /// A row without combination, or a switch with a state that its root lacks.
-#[derive(Clone, Copy, Debug)]
+#[derive(Clone, Copy)]
 pub enum RowRef {
     /// The row, from 1.
     Row(u32),
@@ -26,7 +26,7 @@ pub enum RowRef {
 }
 
 /// A fault of domains and supplies.
-#[derive(Clone, Copy, Debug)]
+#[derive(Clone, Copy)]
 pub enum SupplyFault {
     /// F35: The top instance is in no domain.
     NoDomain {

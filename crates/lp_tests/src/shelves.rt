@@ -1,0 +1,71 @@
+//! Shelves that fail, and the files of the host.
+use lp_text::{FileShelf, LIMIT, MemShelf, NeverFails, Shelf, ShelfFault};
+use std::alloc::Global;
+use std::test::Fail;
+use std::{env, fs, process};
+
+/// What came of a call.
+fn came(answer: &Result<(), ShelfFault>) -> &'static str {
+    match answer {
+        Ok(()) => "done",
+        Err(ShelfFault::Failed) => "failed",
+        Err(ShelfFault::TooLong) => "too long",
+        Err(ShelfFault::NoMemory) => "no memory",
+    }
+}
+
+/// What comes of reading a file.
+fn reading<S: Shelf>(alloc: Global, shelf: &mut S, name: &str) -> &'static str {
+    came(&shelf.read(alloc, name).map(|_| ()))
+}
+
+#[test]
+fn fails_by_number(rt: HostRuntime) -> Result<(), Fail> {
+    let alloc = rt.alloc();
+    let mut shelf = MemShelf::new(alloc, &[3, 5])?;
+    shelf.add_file("a", b"one")?;
+    shelf.say(b"one")?;
+    assert_eq!(rt; reading(alloc, &mut shelf, "a"), "done");
+    assert_eq!(rt; reading(alloc, &mut shelf, "a"), "failed");
+    assert_eq!(rt; reading(alloc, &mut shelf, "c"), "failed", "no such file");
+    assert_eq!(rt; came(&shelf.write("a", b"two")), "failed");
+    let kept = shelf.contents("a").ok_or("a is gone")?;
+    assert_eq!(rt; kept, b"one".as_slice());
+    shelf.say(b" more")?;
+    assert_eq!(rt; shelf.said_bytes(), b"one more".as_slice());
+    assert_eq!(rt; shelf.calls(), 6);
+    Ok(())
+}
+
+#[test]
+fn takes_no_file_above_the_limit(rt: HostRuntime) -> Result<(), Fail> {
+    let alloc = rt.alloc();
+    let mut shelf = NeverFails::new(alloc)?;
+    assert_eq!(rt;
+        reading(alloc, &mut shelf, "a"),
+        "done",
+        "no such file is empty"
+    );
+    shelf.add_file("a", vec![in alloc; 0u8; LIMIT + 1]?.as_slice())?;
+    assert_eq!(rt; reading(alloc, &mut shelf, "a"), "too long");
+    Ok(())
+}
+
+#[test]
+fn keeps_files(rt: HostRuntime) -> Result<(), Fail> {
+    let alloc = rt.alloc();
+    let dir = env::temp_dir(&rt)?;
+    let process = process::id(rt.process());
+    let name = format!(in alloc; "{}/lp_tests_{process}", dir.display())?;
+    let mut shelf = FileShelf::new(&rt, &rt);
+    assert_eq!(rt; reading(alloc, &mut shelf, &name), "failed");
+    shelf.write(&name, b"longer than what follows")?;
+    shelf.write(&name, b"whole")?;
+    assert_eq!(rt; shelf.read(alloc, &name)?.as_slice(), b"whole".as_slice());
+    shelf.say(b"")?;
+    fs::remove_file(&rt, &name)?;
+    assert_eq!(rt; came(&shelf.write("/dev/full", b"x")), "failed");
+    assert_eq!(rt; reading(alloc, &mut shelf, "/dev/zero"), "too long");
+    assert_eq!(rt; reading(alloc, &mut shelf, "/"), "failed", "a folder");
+    Ok(())
+}
