@@ -137,9 +137,10 @@ shifter_of = refl
 
 -- ---- F59: a control of a strategy and of a switch, both from a lower supply, in the order of the commands
 
+-- the top's net en has number 1
 abbrev low_controls : ℕ → Project
 low_controls command = record (project (record (with_strategies (record (isolation 1 None Outputs) { command = command } ∷ [])) { drivers = record { port = codes "en"; supply = 2 } ∷ [] })) {
-  supplies = record (supplies [] []) { origins = origin 0 (Port (On 1000000 ∷ [])) ∷ origin 0 (Switch (record { 0 = 0 }) (record { 0 = 5 }) true) ∷ origin 2 (Port (On 800000 ∷ [])) ∷ origin 3 (Port []) ∷ [] };
+  supplies = record (supplies [] []) { origins = origin 0 (Port (On 1000000 ∷ [])) ∷ origin 0 (Switch (record { 0 = 0 }) (record { 0 = 1 }) true) ∷ origin 2 (Port (On 800000 ∷ [])) ∷ origin 3 (Port []) ∷ [] };
 }
 
 -- what is controlled, and the first row that shows it
