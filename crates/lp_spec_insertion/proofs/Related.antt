@@ -16,7 +16,7 @@ use Rattle.lp_parts.specs.Functions as parts
 use Rattle.lp_parts.specs.Pins.{kind_of, is_internal_power, switched_by, pg_of, pgs_at, pgs_of, floats}
 use Rattle.lp_cells.specs.Cells.{cell_of, cell_at, cells_from, cells_in, cells_of, scope_of}
 use Rattle.lp_cells.specs.Reasons as reasons
-use Rattle.lp_cells.specs.Sound.{is_grounded_at, has_related, has_parts, is_sound_pin}
+use Rattle.lp_cells.specs.Sound.{is_grounded_at, has_related, has_parts, is_sound_pg, is_sound_pin}
 use Rattle.lp_spec_pins.specs.Pins.{is_power}
 use Rattle.lp_spec_plain.specs.Cells.{is_power_at, is_ground_at, has_ground, is_related_pin}
 use Rattle.lp_spec_plain_module.proofs.Lists.{all-weaker}
@@ -72,17 +72,14 @@ module _ (c : CellView) where
       let both = and_parts (reasons.names_power (parts.kinds_of c.pgs) (Some q.power)) (is_grounded_at false (parts.kinds_of c.pgs) q.gnd) e in
       and_from _ _ (powered q.power both.0) (grounded q.gnd both.1)
 
-  pub related : has_parts c ≡ true → has_related_pins c ≡ true
-  related e = by c.roles.switch refl
-    where
-      sound : list_all (is_sound_pin c) c.pins ≡ true
-      sound = (and_parts (list_all (is_sound_pin c) c.pins) _ (and_parts _ _ e).1).0
+  all_related : list_all (is_sound_pin c) c.pins ≡ true → (b : Bool) → c.roles.switch ≡ b → (b || list_all (is_related_pin c) c.pins) ≡ true
+  all_related sound true is = refl
+  all_related sound false is =
+      all-weaker (is_sound_pin c) (is_related_pin c)
+      (λ q h. related_by q (subst (λ b. has_related (floats b c.pgs) (parts.kinds_of c.pgs) q ≡ true) is (and_parts (has_related (floats c.roles.switch c.pgs) (parts.kinds_of c.pgs) q) _ h).0)) c.pins sound
 
-      by : (b : Bool) → c.roles.switch ≡ b → (b || list_all (is_related_pin c) c.pins) ≡ true
-      by true is = refl
-      by false is =
-          all-weaker (is_sound_pin c) (is_related_pin c)
-          (λ q h. related_by q (subst (λ b. has_related (floats b c.pgs) (parts.kinds_of c.pgs) q ≡ true) is (and_parts (has_related (floats c.roles.switch c.pgs) (parts.kinds_of c.pgs) q) _ h).0)) c.pins sound
+  pub related : has_parts c ≡ true → has_related_pins c ≡ true
+  related e = all_related (and_parts (list_all (is_sound_pin c) c.pins) _ (and_parts (list_all (is_sound_pg c) c.pgs) _ e).1).0 c.roles.switch refl
 
 -- ---- switched pins
 
