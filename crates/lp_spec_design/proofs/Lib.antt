@@ -8,3 +8,4 @@ pub mod Same
 pub mod Members
 pub mod WaysBack
 pub mod Looped
+pub mod Sources

@@ -1,10 +1,10 @@
 -- A node that reaches itself is or passes a net bit.
-use Rattle.std.proofs.Common.{◌≡◌, ◌≤◌, ℕ, suc, Bool, true, false, List, [], ◌∷◌, map, Option, Some, None, refl, sym, ap, ◌∙◌, subst, inl, inr}
-use Rattle.std.specs.Prelude.{length, filter, bytes_eq, ◌&&◌}
+use Rattle.std.proofs.Common.{◌≡◌, ◌≤◌, ℕ, suc, Bool, true, false, List, [], ◌∷◌, map, Option, Some, None, refl, sym, ◌∙◌, subst, inl, inr}
+use Rattle.std.specs.Prelude.{filter, bytes_eq, ◌&&◌}
 use Rattle.std.specs.List.{list_any}
 use Rattle.std.proofs.lemmas.Bool.{false≢true}
 use Rattle.lp_model.specs.NetlistView.{PortView, ModuleView}
-use Rattle.lp_spec_design.specs.Keys.{Name, Path, Way, Node, Inner, Outer, Fixed, Source, Environment, From, same_index, same_node}
+use Rattle.lp_spec_design.specs.Keys.{Name, Path, Way, Node, Inner, Outer, Fixed, Source, Environment, From, same_index}
 use Rattle.lp_spec_design.specs.Netlists.{Structure, module_at, indices, is_input}
 use Rattle.lp_spec_design.specs.Graph.{sources_of, source_of, outside, trail}
 use Rattle.lp_spec_design.specs.Winners.{IsIn}
@@ -12,7 +12,7 @@ use Rattle.lp_spec_design.specs.Nodes.{inner_nodes, outer_in, nodes_of, fuel_of,
 use Rattle.lp_spec_design.proofs.Members.{in-either, of-flat, of-map, any-in}
 use Rattle.lp_spec_design.proofs.WaysBack.{Back, back-more, back-on, has-fuel}
 
-abbrev head_of : List Source → Option Source
+abbrev pub head_of : List Source → Option Source
 head_of [] = None
 head_of (x ∷ xs) = Some x
 
@@ -21,11 +21,11 @@ source_by s k [] e = rw (e) refl
 source_by s k (x ∷ xs) e = rw (e) refl
 
 module _ (s : Structure) (n : Name) (i : Option ℕ) where
-  abbrev outer_sources : Option ModuleView → List Source
+  abbrev pub outer_sources : Option ModuleView → List Source
   outer_sources None = []
   outer_sources (Some m) = map (outside n i) (filter (λ port. bytes_eq port.name n && list_any (same_index i) (indices port.range)) m.ports)
 
-  outer_by : (o : Option ModuleView) → module_at s [] ≡ o → sources_of s (Outer n i) ≡ outer_sources o
+  pub outer_by : (o : Option ModuleView) → module_at s [] ≡ o → sources_of s (Outer n i) ≡ outer_sources o
   outer_by None e = rw (e) refl
   outer_by (Some m) e = rw (e) refl
 

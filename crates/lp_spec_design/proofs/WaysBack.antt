@@ -1,8 +1,7 @@
 -- Without a wire loop no way back is longer than there are nodes: it has no node twice.
-use Rattle.std.proofs.Common.{◌≡◌, ◌⊎◌, ◌≤◌, ℕ, zero, suc, ◌+◌, Bool, true, false, ◌||◌, List, [], ◌∷◌, Option, Some, None, inl, inr, refl, sym, ap, ◌∙◌, subst, arith}
+use Rattle.std.proofs.Common.{◌≡◌, ◌≤◌, ℕ, zero, suc, ◌+◌, Bool, true, false, ◌||◌, List, [], ◌∷◌, Option, Some, None, inl, inr, refl, sym, ap, ◌∙◌, arith}
 use Rattle.std.specs.Prelude.{length}
 use Rattle.std.specs.List.{list_any}
-use Rattle.std.proofs.lemmas.Bool.{false≢true}
 use Rattle.lp_spec_design.specs.Keys.{Way, Node, Source, CellPin, SwitchedPin, Environment, From, same_node}
 use Rattle.lp_spec_design.specs.Netlists.{Structure}
 use Rattle.lp_spec_design.specs.Graph.{source_of, trail, way_in, going_back}
