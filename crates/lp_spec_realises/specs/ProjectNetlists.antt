@@ -46,15 +46,12 @@ abbrev pub has_names_apart : List ModuleView → Bool
 has_names_apart modules = are_apart (map (λ (m : ModuleView). m.name) modules) && list_all (λ m. are_apart (names_in m)) modules
 
 -- the bits that the connections and assigns of a module have
-abbrev pub bits_connected : InstanceView → List BitView
-bits_connected x = by x.connections
-  where
-    by : ConnectionsView → List BitView
-    by (ByName cs) = flat_map (λ (c : ConnectionView). c.bits) cs
-    by (ByPosition values) = flat_map (λ bits. bits) values
+abbrev pub bits_connected : ConnectionsView → List BitView
+bits_connected (ByName cs) = flat_map (λ (c : ConnectionView). c.bits) cs
+bits_connected (ByPosition values) = flat_map (λ bits. bits) values
 
 abbrev pub bits_used : ModuleView → List BitView
-bits_used m = flat_map bits_connected m.instances ++ flat_map (λ (a : AssignView). a.left ++ a.right) m.assigns
+bits_used m = flat_map (λ (x : InstanceView). bits_connected x.connections) m.instances ++ flat_map (λ (a : AssignView). a.left ++ a.right) m.assigns
 
 -- a constant, or a bit of a port or net of the module; what is not declared otherwise is a scalar net by its use
 abbrev pub is_declared : ModuleView → BitView → Bool
@@ -72,15 +69,12 @@ is_shallow w = list_all (λ x. nat_lt (length x) 64) (below w 65 [])
 -- ---- the ports of its top
 
 -- the origins that are supply ports, by their numbers
-abbrev pub port_number : ℕ × Origin → Option ℕ
-port_number x = by x.1
-  where
-    by : Origin → Option ℕ
-    by FromPort = Some x.0
-    by (FromSwitch input control high) = None
+abbrev pub if_port : ℕ → Origin → Option ℕ
+if_port o FromPort = Some o
+if_port o (FromSwitch input control high) = None
 
 abbrev pub port_origins : Project → List ℕ
-port_origins p = some_of port_number (numbered 0 (network_of p).origins)
+port_origins p = some_of (λ x. if_port x.0 x.1) (numbered 0 (network_of p).origins)
 
 abbrev pub is_port_origin : Project → ℕ → Bool
 is_port_origin p o = list_any (λ k. k == o) (port_origins p)

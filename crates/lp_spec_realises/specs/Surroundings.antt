@@ -41,19 +41,19 @@ node_of_origin p w at (Some (FromSwitch input control high)) o = switched_node w
 abbrev pub supply_node : Project → Structure → Placement → ℕ → Node
 supply_node p w at o = unwrap_or (node_of_origin p w at (slice_get (network_of p).origins o) o) (Fixed true)
 
-abbrev pub nodes_of_set : Project → Structure → Placement → Option SetNumber → SupplyNodes
-nodes_of_set p w at k = by (option_and_then (λ j. slice_get (network_of p).sets j) k)
-  where
-    by : Option SupplySet → SupplyNodes
-    by None = record { power = Fixed true; gnd = Fixed true }
-    by (Some s) = record { power = supply_node p w at s.power; gnd = supply_node p w at s.gnd }
+abbrev pub nodes_of_set : Project → Structure → Placement → Option SupplySet → SupplyNodes
+nodes_of_set p w at None = record { power = Fixed true; gnd = Fixed true }
+nodes_of_set p w at (Some s) = record { power = supply_node p w at s.power; gnd = supply_node p w at s.gnd }
+
+abbrev pub set_of : Project → Option SetNumber → Option SupplySet
+set_of p k = option_and_then (λ j. slice_get (network_of p).sets j) k
 
 -- a top input is driven by its driver supply, a top output read by its receiver supply; a port is a supply where it is that of an origin
 abbrev pub surroundings_of : Project → Structure → Placement → Surroundings
 surroundings_of p w at = record {
   is_supply = λ n. is_some (origin_of_port p n);
-  driver = λ n. nodes_of_set p w at (source_supply p.intent (Outer n None) (Some Environment));
-  receiver = λ n. nodes_of_set p w at (reader_supply p.intent (TopOutput n None));
+  driver = λ n. nodes_of_set p w at (set_of p (source_supply p.intent (Outer n None) (Some Environment)));
+  receiver = λ n. nodes_of_set p w at (set_of p (reader_supply p.intent (TopOutput n None)));
   margin = p.margin;
 }
 
