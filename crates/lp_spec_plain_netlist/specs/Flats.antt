@@ -1,5 +1,5 @@
 -- The design of a module with its cells and the two supply ports of its intent, and whether its keys have an order (own rule).
-use Rattle.std.specs.Prelude.{ℕ, ◌+◌, List, length}
+use Rattle.std.specs.Prelude.{ℕ, List}
 use Rattle.lp_spec_settling.specs.Settling.{IsOrder, Covers, Reaches}
 use Rattle.lp_model.specs.NetlistView.{ModuleView}
 use Rattle.lp_model.specs.LibraryView.{CellView}
