@@ -6,9 +6,10 @@ use Rattle.lp_model.specs.declared.intent.Applies.TheVariants.{Inputs, Outputs, 
 use Rattle.lp_model.specs.declared.intent.StrategyKind.TheVariants.{Isolation}
 use Rattle.lp_spec_design.specs.Keys.{Inner, Name, Outer, Way, PortBit}
 use Rattle.lp_spec_design.specs.Netlists.{Structure}
+use Rattle.lp_model.specs.NetlistView.{NetBit}
 use Rattle.lp_spec_design.specs.Graph.{readers, readers_of, InputPin, TopOutput}
 use Rattle.lp_model.specs.declared.netlist.Direction.TheVariants.{Input, Output}
-use Rattle.lp_spec_design.specs.Nodes.{computing, nodes_of}
+use Rattle.lp_spec_design.specs.Nodes.{computing, nodes_of, has_wire_loop}
 use Rattle.lp_spec_design.specs.Intents.{Element, Intent, AtInstance, AtPort, AtBit}
 use Rattle.lp_spec_design.specs.Winners.{Crossing, crossing, winner, applying, is_tied, rank}
 use Rattle.lp_spec_design.specs.Domains.{BoundaryBit, way_of, boundary}
@@ -18,7 +19,7 @@ use Rattle.lp_tern.specs.declared.tern.Tern.TheVariants.{Zero, One, X}
 use Rattle.lp_tern.specs.declared.supply.SupplyState.{SupplyState}
 use Rattle.lp_tern.specs.declared.supply.SupplyState.TheVariants.{On, Off, Unknown}
 use Rattle.lp_spec_design.specs.Settled.{Key, At, Of, Design, Event, Registers, output, computed}
-use Rattle.lp_spec_design.specs.Samples.{plain, switched_from_inside, read_inside, fed_through, wide, wide_output, by_supply, with_strategies, isolation, shifting, network, switched, switched_network, volts, port}
+use Rattle.lp_spec_design.specs.Samples.{plain, switched_from_inside, read_inside, fed_through, wide, wide_output, by_supply, with_strategies, isolation, shifting, network, switched, switched_network, volts, port, top}
 use Rattle.lp_spec_settling.specs.Settling.{has, IsOrder, Reaches}
 use Rattle.lp_spec_settling.proofs.Laws.{order-no_loop}
 use Rattle.lp_spec_design.specs.Reads.{keys, reads}
@@ -36,6 +37,14 @@ readers_in_order = refl
 nodes_in_order : nodes_of plain ≡ Inner (codes "a") None [] ∷ Inner (codes "en") None [] ∷ Inner (codes "y") None [] ∷ Inner (codes "n") None [] ∷ Inner (codes "i") None (codes "u" ∷ []) ∷ Inner (codes "o") None (codes "u" ∷ []) ∷ Outer (codes "a") None ∷ Outer (codes "en") None ∷ Outer (codes "y") None ∷ []
 unfolding computing
 nodes_in_order = refl
+
+-- two nets that assigns lead to one another
+abbrev ring : Structure
+ring = record { modules = record top { instances = []; nets = record { name = codes "m"; range = None } ∷ top.nets; assigns = record { left = NetBit (codes "n") ∷ []; right = NetBit (codes "m") ∷ [] } ∷ record { left = NetBit (codes "m") ∷ []; right = NetBit (codes "n") ∷ [] } ∷ [] } ∷ []; cells = [] }
+
+loops : map has_wire_loop (plain ∷ read_inside ∷ fed_through ∷ ring ∷ []) ≡ false ∷ false ∷ false ∷ true ∷ []
+unfolding computing
+loops = refl
 
 abbrev out_bit : Way
 out_bit = PortBit (codes "u" ∷ []) (codes "o") None

@@ -4,12 +4,12 @@ use Rattle.lp_tern.specs.declared.tern.Tern.{Tern}
 use Rattle.lp_tern.specs.declared.tern.Tern.TheVariants.{X}
 use Rattle.lp_spec_design.specs.Keys.{Way, Node, Inner, Outer, Fixed, Source, CellPin, SwitchedPin, Environment, From}
 use Rattle.lp_spec_design.specs.Graph.{source_of, trail, way_in, going_back}
-use Rattle.lp_spec_design.specs.Nodes.{fuel_of}
+use Rattle.lp_spec_design.specs.Nodes.{fuel_of, HasFuel}
 use Rattle.lp_spec_design.specs.Intents.{SetNumber, Intent, Network}
 use Rattle.lp_spec_design.specs.Netlists.{cell_at}
 use Rattle.lp_spec_design.specs.Domains.{domain_of, primary_of, source_supply, start_rail}
 use Rattle.lp_spec_design.specs.Chains.{Operator, rail_after, rail_along}
-use Rattle.lp_spec_design.specs.Settled.{Assignment, Design, Event, Registers, At, Logic, rail_of, operators_of, HasFuel, SettlesIntent, at, logic_in, set_on, through, node_equation, output_of}
+use Rattle.lp_spec_design.specs.Settled.{Assignment, Design, Event, Registers, At, Logic, rail_of, operators_of, SettlesIntent, at, logic_in, set_on, through, node_equation, output_of}
 use Rattle.lp_spec_design.proofs.DesignLaws.{kept-off, step-off}
 
 none≢some : {A : Type 0} {x : A} → None ≡ Some x → ⊥
@@ -20,7 +20,7 @@ through-some : (n : Network) (i : Intent) (A : Assignment) (r : Option SetNumber
 through-some n i A r v [] t e lost off = lost e
 through-some n i A r v (o ∷ operators) t e lost off = step-off n i A v o operators (ap (set_on n A) e ∙ off)
 
-module _ (d : Design) (ev : Event) (regs : Registers) (A : Assignment) (settles : SettlesIntent d ev regs A) (fuel : HasFuel d) where
+module _ (d : Design) (ev : Event) (regs : Registers) (A : Assignment) (settles : SettlesIntent d ev regs A) (fuel : HasFuel d.structure) where
   -- the way back from a node, by what drives it
   trail_by : (k : Node) → trail d.structure (fuel_of d.structure) k ≡ going_back (λ j. trail d.structure (fuel_of d.structure) j) (way_in (source_of d.structure k))
   trail_by k = sym (fuel k)
@@ -92,5 +92,5 @@ module _ (d : Design) (ev : Event) (regs : Registers) (A : Assignment) (settles 
       (λ w j t e h o. let less = shorter (Outer m i) w j e in at-lost n j (omega arith) t h o)
       r (sym (rail_is (Outer m i) (source_of d.structure (Outer m i)) refl) ∙ is) off
 
-pub corrupted : (d : Design) (ev : Event) (regs : Registers) (A : Assignment) → SettlesIntent d ev regs A → HasFuel d → (k : Node) (r : SetNumber) → rail_of d k ≡ Some r → set_on d.network A (Some r) ≡ false → at A k ≡ X
+pub corrupted : (d : Design) (ev : Event) (regs : Registers) (A : Assignment) → SettlesIntent d ev regs A → HasFuel d.structure → (k : Node) (r : SetNumber) → rail_of d k ≡ Some r → set_on d.network A (Some r) ≡ false → at A k ≡ X
 corrupted d ev regs A settles fuel k r is off = at-lost d ev regs A settles fuel (suc (length (trail d.structure (fuel_of d.structure) k))) k (omega arith) r is off

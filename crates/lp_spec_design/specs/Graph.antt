@@ -29,25 +29,29 @@ when b x = if b then Some x else None
 
 -- ---- what drives a net bit of a module, from its own ports
 
+-- from what an instance's connection has at a bit of a port
+abbrev pub joined_outside : Path → Name → Name → Option ℕ → PortView → InstanceView → ModuleView → List Source
+joined_outside p inst n i port x inner =
+    some_of (λ pair. when (same_index pair.0 i) (From (PortBit (inst ∷ p) n i) (node_of p pair.1))) (pairs (indices port.range) (connected inner.ports n x.connections))
+
 -- the way into a bit that the port has, from the outside of the top or from what the instance's connection has there
 abbrev pub from_port : Structure → Path → Name → Option ℕ → PortView → List Source
 from_port s [] n i port = if list_any (same_index i) (indices port.range) then From (PortBit [] n i) (Outer n i) ∷ [] else []
-from_port s (inst ∷ p) n i port = unwrap_or (option_and_then (λ outer. option_and_then (λ x. option_and_then (λ inner. Some (joined outer x inner)) (module_named s x.target)) (first (λ x. bytes_eq x.name inst) outer.instances)) (module_at s p)) []
-  where
-    joined : ModuleView → InstanceView → ModuleView → List Source
-    joined outer x inner = some_of (λ pair. when (same_index pair.0 i) (From (PortBit (inst ∷ p) n i) (node_of p pair.1))) (pairs (indices port.range) (connected inner.ports n x.connections))
+from_port s (inst ∷ p) n i port = unwrap_or (option_and_then (λ outer. option_and_then (λ x. option_and_then (λ inner. Some (joined_outside p inst n i port x inner)) (module_named s x.target)) (first (λ x. bytes_eq x.name inst) outer.instances)) (module_at s p)) []
 
 abbrev pub ports_in : Structure → Path → Name → Option ℕ → ModuleView → List Source
 ports_in s p n i m = flat_map (from_port s p n i) (filter (λ port. bytes_eq port.name n && is_input port) m.ports)
 
 -- ---- from the instances of its module
 
+-- from the bits of an output port to what the instance's connection has there
+abbrev pub joined_inside : Path → Name → Option ℕ → InstanceView → ModuleView → PortView → List Source
+joined_inside p n i x inner port =
+    some_of (λ pair. when (same_node (node_of p pair.1) (Inner n i p)) (From (PortBit (x.name ∷ p) port.name pair.0) (Inner port.name pair.0 (x.name ∷ p)))) (pairs (indices port.range) (connected inner.ports port.name x.connections))
+
 -- an output port of a module instance
 abbrev pub from_instance : Path → Name → Option ℕ → InstanceView → ModuleView → List Source
-from_instance p n i x inner = flat_map joined (filter (λ port. not (is_input port)) inner.ports)
-  where
-    joined : PortView → List Source
-    joined port = some_of (λ pair. when (same_node (node_of p pair.1) (Inner n i p)) (From (PortBit (x.name ∷ p) port.name pair.0) (Inner port.name pair.0 (x.name ∷ p)))) (pairs (indices port.range) (connected inner.ports port.name x.connections))
+from_instance p n i x inner = flat_map (joined_inside p n i x inner) (filter (λ port. not (is_input port)) inner.ports)
 
 abbrev pub is_output_pin : PinView → Bool
 is_output_pin q = by q.direction
@@ -66,13 +70,14 @@ from_cell p n i x c =
     some_of (λ q. when (is_output_pin q && touches p n i (connected [] q.name x.connections)) (CellPin p x.name q.name)) c.pins
     ++ some_of (λ (g : PgPinView). when (is_some g.switched && touches p n i (connected [] g.name x.connections)) (SwitchedPin p x.name g.name)) c.pgs
 
+-- an instance is one of a module, else of a cell
+abbrev pub from_target : Path → Name → Option ℕ → InstanceView → Option ModuleView → Option CellView → List Source
+from_target p n i x (Some m) c = from_instance p n i x m
+from_target p n i x None (Some c) = from_cell p n i x c
+from_target p n i x None None = []
+
 abbrev pub from_one : Structure → Path → Name → Option ℕ → InstanceView → List Source
-from_one s p n i x = by (module_named s x.target) (cell_named s x.target)
-  where
-    by : Option ModuleView → Option CellView → List Source
-    by (Some m) c = from_instance p n i x m
-    by None (Some c) = from_cell p n i x c
-    by None None = []
+from_one s p n i x = from_target p n i x (module_named s x.target) (cell_named s x.target)
 
 -- ---- from its assigns
 

@@ -104,7 +104,7 @@ pub path-self : (p : Path) → same_path p p ≡ true
 path-self [] = refl
 path-self (a ∷ p) = both (bytes_eq a a) (same_path p p) (name-self a) (path-self p)
 
-index-true : (i j : Option ℕ) → same_index i j ≡ true → i ≡ j
+pub index-true : (i j : Option ℕ) → same_index i j ≡ true → i ≡ j
 index-true None None e = refl
 index-true None (Some j) e = absurd (true≢false (sym e))
 index-true (Some i) None e = absurd (true≢false (sym e))

@@ -12,7 +12,7 @@ use Rattle.lp_rows.specs.Voltages.{under_of}
 use Rattle.lp_behaviour.specs.Signals.{known}
 use Rattle.lp_spec_design.specs.Keys.{Name, Path, Node, Outer, Fixed, Way, Source, CellPin, SwitchedPin, Environment, From}
 use Rattle.lp_spec_design.specs.Netlists.{Structure, first, module_at, cell_at, instance_named}
-use Rattle.lp_spec_design.specs.Graph.{source_of, trail, pin_node}
+use Rattle.lp_spec_design.specs.Graph.{source_of, pin_node}
 use Rattle.lp_spec_design.specs.Nodes.{fuel_of}
 use Rattle.lp_spec_design.specs.Intents.{SetNumber, SupplySet, Origin, FromPort, FromSwitch, Strategy, Intent, Network}
 use Rattle.lp_spec_design.specs.Domains.{domain_of, primary_of, start_rail}
@@ -168,10 +168,6 @@ rail_of d k = rail d.structure d.network d.intent (fuel_of d.structure) k
 -- what passes a way
 abbrev pub operators_of : Design → Way → Option SetNumber → List Operator
 operators_of d w r = operators_at d.structure d.network d.intent (fuel_of d.structure) w r
-
--- no way back is longer than there are nodes
-abbrev pub HasFuel : Design → Type 0
-HasFuel d = (k : Node) → trail d.structure (suc (fuel_of d.structure)) k ≡ trail d.structure (fuel_of d.structure) k
 
 -- a top input is driven where its driver supply is on, a cell output has its function where its domain's primary supply is on, a way passes its operators
 abbrev pub node_equation : Design → Event → Registers → Assignment → Node → Option Source → Tern

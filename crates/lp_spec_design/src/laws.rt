@@ -10,8 +10,10 @@ ghost use Rattle.lp_spec_design.specs.Winners.{Crossing, IsIn, applying, rank, w
 ghost use Rattle.lp_spec_design.specs.Chains.{Operator, Clamp, by_rule, clamp_of, part, rail_after, target};
 ghost use Rattle.lp_spec_settling.specs.Settling.{HasOrder, SettlesOnce};
 ghost use Rattle.lp_spec_design.specs.Keys.{Node};
-ghost use Rattle.lp_spec_design.specs.Settled.{Assignment, Design, Event, HasFuel, Registers, rail_of, SettlesIntent, active, at, equation, set_on, through};
+ghost use Rattle.lp_spec_design.specs.Netlists.{Structure};
+ghost use Rattle.lp_spec_design.specs.Settled.{Assignment, Design, Event, Registers, rail_of, SettlesIntent, active, at, equation, set_on, through};
 ghost use Rattle.lp_spec_design.specs.Reads.{keys, reads};
+ghost use Rattle.lp_spec_design.specs.Nodes.{DeclaresBits, HasFuel, HasItsNodes, has_wire_loop};
 ghost use Rattle.lp_spec_design.specs.Registers.{States};
 ghost use Rattle.lp_spec_design.specs.Runs.{RunsOnce, SameRegisters};
 
@@ -64,6 +66,20 @@ pub fn same_registers_as_themselves()
 
 /// A node whose rail is not on is X in every assignment that settles under intent.
 pub fn lost_where_the_rail_is_off()
-    ensures { (d : Design) (event : Event) (registers : Registers) (A : Assignment) → SettlesIntent d event registers A → HasFuel d
+    ensures { (d : Design) (event : Event) (registers : Registers) (A : Assignment) → SettlesIntent d event registers A → HasFuel d.structure
         → (k : Node) (r : SetNumber) → rail_of d k ≡ Some r → set_on d.network A (Some r) ≡ false → at A k ≡ X }
+{}
+
+/// Where whatever has a source is one of the nodes, and no net bit reaches itself over ways alone, no way back is longer
+/// than there are nodes.
+#[tactic(auto, using(crate::proofs::Looped::no_loop_fuel))]
+pub fn no_loop_has_fuel()
+    ensures { (s : Structure) → HasItsNodes s → has_wire_loop s ≡ false → HasFuel s }
+{}
+
+/// Where each bit that is joined is declared and no module instance is deeper than 64, whatever has a source is one of
+/// the nodes.
+#[tactic(auto, using(crate::proofs::Sources::sources_known))]
+pub fn sources_have_nodes()
+    ensures { (s : Structure) → DeclaresBits s → HasItsNodes s }
 {}

@@ -194,8 +194,7 @@ no_clamp_cell = refl
 abbrev switched : Project
 switched = record (project (with_strategies [])) {
   structure = switched_from_inside;
-  supplies = record (supplies [] []) { origins = origin 0 (Port (On 1000000 ∷ [])) ∷ origin 0 (Switch (record { 0 = 0 }) (record { 0 = 5 }) false) ∷ origin 2 (Port []) ∷ origin 3 (Port []) ∷ [] };
-  node = λ k. Inner (codes "sl") None [];
+  supplies = record (supplies [] []) { origins = origin 0 (Port (On 1000000 ∷ [])) ∷ origin 0 (Switch (record { 0 = 0 }) (record { 0 = 4 }) false) ∷ origin 2 (Port []) ∷ origin 3 (Port []) ∷ [] };
 }
 
 the_control_loops : first_of (loop switched 3) ≡ Some (Inner (codes "sl") None [])

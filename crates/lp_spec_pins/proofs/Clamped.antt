@@ -160,6 +160,14 @@ not_supplied : is_supplied (record (written 0) { structure = record { modules = 
 unfolding computing
 not_supplied = refl
 
+-- the supply net of the block has two sources: its port, and an assign
+abbrev twice_supplied : ModuleView
+twice_supplied = record inner { assigns = record { left = NetBit (codes "lp_v_VDC") ∷ []; right = NetBit (codes "lp_v_VDD") ∷ [] } ∷ [] }
+
+two_supplies : is_supplied (record (written 0) { structure = record { modules = outer ∷ twice_supplied ∷ []; cells = cells } }) ≡ false
+unfolding computing
+two_supplies = refl
+
 -- ---- pins on one source are on together
 
 abbrev two_powers : CellView
@@ -217,9 +225,19 @@ unfolding computing
 low_off_is_clamped = refl
 
 -- above its output a shifter from low to high is outside its type
-abbrev high_input : Powered
-high_input = record shifted { around = around 1000000 }
+abbrev high_y : CellView → Tern
+high_y c = let w = record shifted { structure = record { modules = outer ∷ shifted_inner ∷ []; cells = c ∷ cells }; around = around 1000000 } in output_by_pins w (computed_by_pins w (event Zero Zero (On 1200000)) no_registers 14) (codes "y") None
 
-high_is_outside : output_by_pins high_input (computed_by_pins high_input (event Zero Zero (On 1200000)) no_registers 14) (codes "y") None ≡ X
+high_is_outside : high_y shifter ≡ X
 unfolding computing
 high_is_outside = refl
+
+-- an output that bears the mark of the data is no data pin
+output_with_the_mark : high_y (record shifter { pins = record (pin (codes "Z") Output None) { power = 1; gnd = Some 2; use_of = ShiftData } ∷ shifter.pins }) ≡ X
+unfolding computing
+output_with_the_mark = refl
+
+-- with two data pins nothing is judged
+two_data_pins : high_y (record shifter { pins = record (pin (codes "B") Input None) { gnd = Some 2; use_of = ShiftData } ∷ shifter.pins }) ≡ One
+unfolding computing
+two_data_pins = refl

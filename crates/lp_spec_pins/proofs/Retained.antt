@@ -1,5 +1,5 @@
 -- A register with retention and a power switch by their pins, over events.
-use Rattle.std.proofs.Common.{◌≡◌, false, [], ◌∷◌, ◌++◌, Option, Some, None, refl}
+use Rattle.std.proofs.Common.{◌≡◌, List, false, [], ◌∷◌, ◌++◌, Option, Some, None, refl}
 use Rattle.std.specs.Prelude.{◌||◌, bytes_eq, if◌then◌else◌, codes}
 use Rattle.lp_tern.specs.declared.tern.Tern.{Tern}
 use Rattle.lp_tern.specs.declared.tern.Tern.TheVariants.{Zero, One, X}
@@ -9,8 +9,9 @@ use Rattle.lp_expr.specs.declared.step.Step.TheVariants.{Variable, Not, Or}
 use Rattle.lp_model.specs.declared.netlist.Direction.TheVariants.{Input, Output}
 use Rattle.lp_model.specs.declared.library.PgKind.TheVariants.{PrimaryPower, PrimaryGround, BackupPower, InternalPower}
 use Rattle.lp_model.specs.declared.library.PinUse.TheVariants.{Retain}
-use Rattle.lp_model.specs.declared.library.RetClass.TheVariants.{Save, Restore}
-use Rattle.lp_model.specs.declared.library.Action.TheVariants.{Rise}
+use Rattle.lp_model.specs.declared.library.RetClass.TheVariants.{Save, Restore, Both}
+use Rattle.lp_model.specs.declared.library.Action.TheVariants.{Rise, Fall}
+use Rattle.lp_model.specs.declared.library.Action.{Action}
 use Rattle.lp_model.specs.declared.library.StateKind.TheVariants.{Flop}
 use Rattle.lp_model.specs.NetlistView.{ByName, ModuleView}
 use Rattle.lp_model.specs.LibraryView.{ExprView, PinView, CellView}
@@ -178,6 +179,56 @@ sixth = refl
 after_fourth_unknown : next (Some (settled saving One)) (event_with Unknown Zero One Zero Zero Off) One One ≡ (X, X)
 unfolding computing
 after_fourth_unknown = refl
+
+-- ---- what the pins of a retention cell do goes by their class
+
+abbrev retaining_with : List PinView → Powered
+retaining_with pins = record written { structure = record { modules = outer ∷ inner ∷ []; cells = flop ∷ record retaining_flop { pins = flop.pins ++ pins } ∷ switch ∷ cells } }
+
+abbrev save_pin : Option Action → PinView
+save_pin restore = record (input (codes "SAVE")) { power = 2; use_of = Retain Save (Some Rise) restore }
+
+abbrev restore_pin : Option Action → PinView
+restore_pin save = record (input (codes "RST")) { power = 2; use_of = Retain Restore save (Some Rise) }
+
+-- what an event makes of a main and a saved state, after another event
+abbrev stepped : List PinView → PinEvent → PinEvent → Tern → Tern → Tern × Tern
+stepped pins before now m v = let w = retaining_with pins in of_register (states_after_by_pins w (Some (computed_by_pins w before (states m v).main 12)) (computed_by_pins w now (states m v).main 12) (states m v))
+
+-- a save pin that bears a restore action does not restore by it, and the restore pin does
+save_pin_restores_nothing : stepped (save_pin (Some Fall) ∷ restore_pin None ∷ []) saving idle Zero One ≡ (Zero, One)
+unfolding computing
+save_pin_restores_nothing = refl
+
+restore_pin_restores : stepped (save_pin (Some Fall) ∷ restore_pin None ∷ []) idle restoring Zero One ≡ (One, One)
+unfolding computing
+restore_pin_restores = refl
+
+-- a restore pin that bears a save action does not save by it
+restore_pin_saves_nothing : stepped (restore_pin (Some Rise) ∷ save_pin None ∷ []) idle restoring Zero One ≡ (One, One)
+unfolding computing
+restore_pin_saves_nothing = refl
+
+-- a cell without a restore pin never restores, and one without a save pin never saves
+no_restore_pin : stepped (save_pin None ∷ []) idle saving Zero One ≡ (Zero, Zero)
+unfolding computing
+no_restore_pin = refl
+
+no_save_pin : stepped (restore_pin None ∷ []) idle restoring Zero One ≡ (One, One)
+unfolding computing
+no_save_pin = refl
+
+-- a pin of both classes saves and restores
+abbrev one_pin : List PinView
+one_pin = record (input (codes "SAVE")) { power = 2; use_of = Retain Both (Some Rise) (Some Fall) } ∷ []
+
+one_pin_saves : stepped one_pin idle saving Zero One ≡ (Zero, Zero)
+unfolding computing
+one_pin_saves = refl
+
+one_pin_restores : stepped one_pin saving idle Zero One ≡ (One, One)
+unfolding computing
+one_pin_restores = refl
 
 -- ---- a block that is supplied through a switch
 

@@ -1,10 +1,11 @@
 -- The states of registers after an event, by pins (Liberty ff, latch and retention_cell; own rule).
 use Rattle.std.specs.Prelude.{Bool, Option, Some, None, option_and_then, is_some}
 use Rattle.lp_tern.specs.declared.tern.Tern.{Tern}
-use Rattle.lp_tern.specs.declared.tern.Tern.TheVariants.{X}
+use Rattle.lp_tern.specs.declared.tern.Tern.TheVariants.{Zero, X}
 use Rattle.lp_model.specs.declared.library.Action.{Action}
 use Rattle.lp_model.specs.declared.library.PinUse.{PinUse}
 use Rattle.lp_model.specs.declared.library.PinUse.TheVariants.{Retain}
+use Rattle.lp_model.specs.declared.library.RetClass.TheVariants.{Save, Restore, Both}
 use Rattle.lp_model.specs.LibraryView.{ExprView, StateView, PinView, CellView}
 use Rattle.lp_behaviour.specs.Registers.{fires_of, main_of, copy_of}
 use Rattle.lp_spec_design.specs.Keys.{Name, Path}
@@ -15,12 +16,15 @@ use Rattle.lp_spec_pins.specs.Pins.{Powered, PinAssignment, pins_read, is_up}
 
 -- ---- retention pins
 
+-- by class: a pin of class save only saves, and one of class restore only restores, whatever other action it bears (Liberty retention_pin)
 abbrev pub save_of : PinUse → Option Action
-save_of (Retain class save restore) = save
+save_of (Retain Save save restore) = save
+save_of (Retain Both save restore) = save
 save_of _ = None
 
 abbrev pub restore_of : PinUse → Option Action
-restore_of (Retain class save restore) = restore
+restore_of (Retain Restore save restore) = restore
+restore_of (Retain Both save restore) = restore
 restore_of _ = None
 
 abbrev pub acting : (PinUse → Option Action) → CellView → Option PinView
@@ -31,12 +35,13 @@ abbrev pub read_before : Powered → Option PinAssignment → Path → Name → 
 read_before w None p x c v = X
 read_before w (Some B) p x c v = pins_read w B p x c v
 
+-- an action that a cell lacks does not take place
 abbrev pub fires_by : Option Action → Tern → Tern → Tern
-fires_by None last now = X
+fires_by None last now = Zero
 fires_by (Some action) last now = fires_of action last now
 
 abbrev pub fires_at_pin : (PinUse → Option Action) → (Name → Tern) → (Name → Tern) → Option PinView → Tern
-fires_at_pin action last now None = X
+fires_at_pin action last now None = Zero
 fires_at_pin action last now (Some q) = fires_by (action q.use_of) (last q.name) (now q.name)
 
 -- whether a cell's pins save or restore

@@ -147,11 +147,11 @@ module _ (d : Design) (one : SupplySet) (plain : IsPlain d one) (w : Powered) (o
 
       power_state : (n : ℕ) (g : Option PgPinView) → slice_get c.pgs n ≡ g → is_power_at g ≡ true → state_of_pg w B p x g ≡ ports.power
       power_state n None is e = absurd (false≢true e)
-      power_state n (Some g) is e = ap (state_from B) (AllByRecursion-get (IsJoined w p x power gnd) c.pgs n g (carries.cells_joined p x c cell) is) ∙ ap (λ b. state_from B (Some (FromTop (cond b power gnd)))) e
+      power_state n (Some g) is e = ap (state_from B) (AllByRecursion-get (IsJoined w p x power gnd) c.pgs n g (carries.cells_joined p x c cell) is).0 ∙ ap (λ b. state_from B (Some (FromTop (cond b power gnd)))) e
 
       ground_state : (n : ℕ) (g : Option PgPinView) → slice_get c.pgs n ≡ g → is_ground_at g ≡ true → state_of_pg w B p x g ≡ ports.gnd
       ground_state n None is e = absurd (false≢true e)
-      ground_state n (Some g) is e = ap (state_from B) (AllByRecursion-get (IsJoined w p x power gnd) c.pgs n g (carries.cells_joined p x c cell) is) ∙ by (is_power g.kind) e
+      ground_state n (Some g) is e = ap (state_from B) (AllByRecursion-get (IsJoined w p x power gnd) c.pgs n g (carries.cells_joined p x c cell) is).0 ∙ by (is_power g.kind) e
         where
           by : (b : Bool) → not b ≡ true → state_from B (Some (FromTop (cond b power gnd))) ≡ ports.gnd
           by true f = absurd (false≢true f)

@@ -1,5 +1,5 @@
 -- Every power and ground pin of a netlist that carries a design has one supply.
-use Rattle.std.proofs.Common.{◌≡◌, Bool, true, ◌&&◌, List, [], ◌∷◌, map, Option, Some, None, refl, ◌∙◌, ap}
+use Rattle.std.proofs.Common.{◌≡◌, Bool, true, List, [], ◌∷◌, map, Option, Some, None, refl, ◌∙◌, ap}
 use Rattle.std.specs.Prelude.{flat_map}
 use Rattle.std.specs.List.{AllByRecursion, list_all}
 use Rattle.std.proofs.lemmas.Bool.{and_from}
@@ -9,8 +9,8 @@ use Rattle.lp_spec_design.specs.Keys.{Name, Node}
 use Rattle.lp_spec_design.specs.Netlists.{cell_at}
 use Rattle.lp_spec_design.specs.Instances.{Placed, cell_instances}
 use Rattle.lp_spec_design.specs.Settled.{Design}
-use Rattle.lp_spec_pins.specs.Pins.{Powered, is_joined, supply_of_pin}
-use Rattle.lp_spec_pins.specs.Supplied.{PgPinAt, pg_pins_of, is_supplied}
+use Rattle.lp_spec_pins.specs.Pins.{Powered, is_joined}
+use Rattle.lp_spec_pins.specs.Supplied.{PgPinAt, pg_pins_of, has_one_supply, is_supplied}
 use Rattle.lp_spec_plain.specs.Carried.{IsJoined, Carries}
 
 all-flat : {A B : Type 0} (p : B → Bool) (f : A → List B) (xs : List A) → ((x : A) → list_all p (f x) ≡ true) → list_all p (flat_map f xs) ≡ true
@@ -19,12 +19,12 @@ all-flat p f (x ∷ xs) h = list_all-append p (f x) (flat_map f xs) ∙ and_from
 
 module _ (d : Design) (w : Powered) (own : Node → Bool) (power gnd : Name) (carries : Carries d w own power gnd) where
   is_at : PgPinAt → Bool
-  is_at a = is_joined (supply_of_pin w a.path a.instance a.pin)
+  is_at a = has_one_supply w a
 
   pins : (a : Placed) (gs : List PgPinView) → AllByRecursion (IsJoined w a.path a.instance power gnd) gs → list_all is_at (map (λ (g : PgPinView). record { path = a.path; instance = a.instance; pin = g.name }) gs) ≡ true
   unfolding is_at
   pins a [] all = refl
-  pins a (g ∷ gs) all = ap (λ o. is_joined o && list_all is_at (map (λ (h : PgPinView). record { path = a.path; instance = a.instance; pin = h.name }) gs)) all.0 ∙ pins a gs all.1
+  pins a (g ∷ gs) all = and_from _ _ (and_from _ _ (ap is_joined all.0.0) all.0.1) (pins a gs all.1)
 
   of_cell : (a : Placed) (c : Option CellView) → cell_at d.structure a.path a.instance ≡ c → list_all is_at (pg_pins_of a c) ≡ true
   of_cell a None e = refl

@@ -1,5 +1,5 @@
 -- The line of the table of faults about the names of the written netlist (own rule).
-use Rattle.std.specs.Prelude.{ℕ, nat_lt, nat_eq, Bool, List, [], ◌∷◌, ◌++◌, map, filter, flat_map, length, if◌then◌else◌, bytes_eq, codes}
+use Rattle.std.specs.Prelude.{nat_lt, nat_eq, List, [], ◌∷◌, ◌++◌, map, filter, flat_map, length, if◌then◌else◌, bytes_eq, codes}
 use Rattle.std.specs.List.{list_any, starts_with}
 use Rattle.lp_model.specs.declared.fault.netlist.NetlistLimit.{NetlistLimit}
 use Rattle.lp_model.specs.declared.fault.netlist.NetlistLimit.TheVariants as limits

@@ -1,5 +1,5 @@
 -- Small designs on which the written netlists are computed.
-use Rattle.std.specs.Prelude.{◌==◌, false, List, [], ◌∷◌, ◌++◌, Some, None, codes, if◌then◌else◌}
+use Rattle.std.specs.Prelude.{false, List, [], ◌∷◌, ◌++◌, Some, None, codes}
 use Rattle.lp_model.specs.declared.intent.Applies.{Applies}
 use Rattle.lp_model.specs.declared.intent.Applies.TheVariants.{Inputs, Outputs}
 use Rattle.lp_model.specs.declared.intent.DeclaredState.{DeclaredState}
@@ -39,9 +39,8 @@ project modules i = record {
   structure = record { modules = modules; cells = cells };
   intent = i;
   supplies = supplies (On 1000000 ∷ Off ∷ []);
-  node = λ k. Inner (codes "en") None [];
   margin = 0;
-  port_of_origin = λ o. if o == 0 then codes "lp_v_VDD" else if o == 1 then codes "lp_v_VDC" else codes "lp_v_VSS";
+  origin_names = codes "VDD" ∷ codes "VDC" ∷ codes "VSS" ∷ [];
 }
 
 -- no strategy names cells, and switches are made in the top
@@ -123,7 +122,7 @@ top_output = project (top ∷ core ∷ []) (with_strategies (isolation 0 (Some (
 -- the block's power comes through a switch from the top's, on where en is 0
 abbrev pub switched_supplies : Supplies
 switched_supplies = record {
-  origins = origin 0 (Port (On 1000000 ∷ [])) ∷ origin 0 (Switch (record { 0 = 0 }) (record { 0 = 0 }) false) ∷ origin 2 (Port []) ∷ [];
+  origins = origin 0 (Port (On 1000000 ∷ [])) ∷ origin 0 (Switch (record { 0 = 0 }) (record { 0 = 1 }) false) ∷ origin 2 (Port []) ∷ [];
   rows = [];
   sets = Some (set_of 0) ∷ Some (set_of 1) ∷ [];
 }
