@@ -9,7 +9,7 @@ use Rattle.lp_tern.specs.Values.{choose_of}
 use Rattle.lp_expr.specs.Formula.{Formula, truth, value_of}
 use Rattle.lp_expr.specs.Replaces.{Keeps, Replaces}
 use Rattle.lp_model.specs.declared.library.Cell.{Cell}
-use Rattle.lp_behaviour.specs.Signals.{at_place, pin_place, signal_value, state_value}
+use Rattle.lp_behaviour.specs.Signals.{at_place, input_place, signal_value, state_value}
 use Rattle.lp_behaviour.specs.Functions.{function_value, variable_values}
 use Rattle.lp_behaviour.proofs.Replacing.{by_bit}
 
@@ -83,17 +83,17 @@ placed a b None other same = refl
 placed a b (Some p) other same = same
 
 signals-same : (cell : Cell) (a b : List Tern) (bit : Bool) (names : List NameId)
-    → All (λ name. at_place a (pin_place cell.pins name) X ≡ at_place b (pin_place cell.pins name) X) names
+    → All (λ name. at_place a (input_place cell.pins name) X ≡ at_place b (input_place cell.pins name) X) names
     → map (signal_value cell a bit) names ≡ map (signal_value cell b bit) names
 signals-same cell a b bit [] same = refl
 signals-same cell a b bit (n ∷ names) same =
-    let P : NameId → Type 0 = λ name. at_place a (pin_place cell.pins name) X ≡ at_place b (pin_place cell.pins name) X in
+    let P : NameId → Type 0 = λ name. at_place a (input_place cell.pins name) X ≡ at_place b (input_place cell.pins name) X in
     let here : signal_value cell a bit n ≡ signal_value cell b bit n =
-    placed a b (pin_place cell.pins n) (state_value cell.state bit n) (All-head P n names same) in
+    placed a b (input_place cell.pins n) (state_value cell.state bit n) (All-head P n names same) in
     rw (here, signals-same cell a b bit names (All-tail P n names same)) refl
 
 pub pins_decide : (cell : Cell) (a b : List Tern) (state : Tern) (e : Formula)
-    → All (λ name. at_place a (pin_place cell.pins name) X ≡ at_place b (pin_place cell.pins name) X) e.variables
+    → All (λ name. at_place a (input_place cell.pins name) X ≡ at_place b (input_place cell.pins name) X) e.variables
     → function_value cell a state e ≡ function_value cell b state e
 pins_decide cell a b state e same =
     by_bit cell a state e

@@ -9,7 +9,7 @@ use Rattle.lp_model.specs.declared.library.Cell.{Cell}
 use Rattle.lp_model.specs.declared.library.StateGroup.{StateGroup}
 use Rattle.lp_model.specs.declared.library.StateKind.{StateKind}
 use Rattle.lp_model.specs.declared.library.StateKind.TheVariants.{Flop, Latch}
-use Rattle.lp_behaviour.specs.Signals.{known, at_place, pin_place, signal_value, state_value}
+use Rattle.lp_behaviour.specs.Signals.{known, at_place, input_place, signal_value, state_value}
 use Rattle.lp_behaviour.specs.Functions.{function_value, variable_values}
 use Rattle.lp_behaviour.specs.Registers.{forced_of, loaded_by, group_next, next_if_any, next_value}
 use Rattle.lp_behaviour.proofs.Replacing.{by_bit}
@@ -63,13 +63,13 @@ cleared cell g last now q has clear preset =
 
 -- the state's own names
 module _ (cell : Cell) (g : StateGroup) (pins : List Tern) (bit : Bool) where
-  at-var : cell.state ≡ Some g → pin_place cell.pins g.var ≡ None → signal_value cell pins bit g.var ≡ known bit
+  at-var : cell.state ≡ Some g → input_place cell.pins g.var ≡ None → signal_value cell pins bit g.var ≡ known bit
   at-var has none =
       ap (λ p. at_place pins p (state_value cell.state bit g.var)) none
       ∙ ap (λ s. state_value s bit g.var) has
       ∙ ap (λ b. cond b (known bit) (cond (eqb g.inverse.0 g.var.0) (known (not bit)) X)) (eq-eqb g.var.0 g.var.0 refl)
 
-  at-inverse : cell.state ≡ Some g → g.var.0 ≢ g.inverse.0 → pin_place cell.pins g.inverse ≡ None → signal_value cell pins bit g.inverse ≡ known (not bit)
+  at-inverse : cell.state ≡ Some g → g.var.0 ≢ g.inverse.0 → input_place cell.pins g.inverse ≡ None → signal_value cell pins bit g.inverse ≡ known (not bit)
   at-inverse has apart none =
       ap (λ p. at_place pins p (state_value cell.state bit g.inverse)) none
       ∙ ap (λ s. state_value s bit g.inverse) has
@@ -90,7 +90,7 @@ either X a b p q = rw (p, q) refl
 
 pub never_both : (cell : Cell) (g : StateGroup) (pins : List Tern) (state : Tern)
     → cell.state ≡ Some g → g.var.0 ≢ g.inverse.0
-    → pin_place cell.pins g.var ≡ None → pin_place cell.pins g.inverse ≡ None
+    → input_place cell.pins g.var ≡ None → input_place cell.pins g.inverse ≡ None
     → function_value cell pins state (both g) ≡ Zero
 never_both cell g pins state has apart no_pin no_inverse_pin =
     let at : (bit : Bool) → value_of (both g) (variable_values cell pins bit (both g)) ≡ Zero =

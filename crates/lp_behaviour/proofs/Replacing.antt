@@ -9,7 +9,7 @@ use Rattle.lp_tern.specs.Values.{agreed, choose_of}
 use Rattle.lp_expr.specs.Formula.{Formula, truth, completions, value_of}
 use Rattle.lp_model.specs.declared.library.Cell.{Cell}
 use Rattle.lp_model.specs.declared.library.StateGroup.{StateGroup}
-use Rattle.lp_behaviour.specs.Signals.{at_place, pin_place, state_value}
+use Rattle.lp_behaviour.specs.Signals.{at_place, input_place, state_value}
 use Rattle.lp_behaviour.specs.Functions.{variable_values, truths, function_value}
 
 -- a list that is not empty
@@ -73,7 +73,7 @@ by_bit cell pins X e =
     ∙ agreed-append (truths cell pins e false) (truths cell pins e true) (truths-apart cell pins e false) (truths-apart cell pins e true)
 
 values_in : Cell → List Tern → Formula → Bool → Option StateGroup → List Tern
-values_in cell pins e bit s = map (λ name. at_place pins (pin_place cell.pins name) (state_value s bit name)) e.variables
+values_in cell pins e bit s = map (λ name. at_place pins (input_place cell.pins name) (state_value s bit name)) e.variables
 
 same-self : (a : Tern) → choose_of X a a ≡ a
 same-self Zero = refl

@@ -11,10 +11,6 @@ use Rattle.lp_model.specs.declared.library.PgPin.{PgPin}
 use Rattle.lp_model.specs.declared.library.Pin.{Pin}
 use Rattle.lp_model.specs.declared.library.StateGroup.{StateGroup}
 
--- the place of the pin with a name
-abbrev pub pin_place : List Pin → NameId → Option ℕ
-pin_place pins name = position (λ p. p.name.0 == name.0) pins
-
 abbrev pub is_input : Direction → Bool
 is_input Input = true
 is_input Output = false
@@ -44,9 +40,9 @@ state_value (Some g) bit name =
     else if g.inverse.0 == name.0 then known (not bit)
     else X
 
--- where the pins have these values and the state is this bit: a pin's name stands for the pin, also where the state has it
+-- where the pins have these values and the state is this bit: an input pin's name stands for the pin, also where the state has it
 abbrev pub signal_value : Cell → List Tern → Bool → NameId → Tern
-signal_value cell pins bit name = at_place pins (pin_place cell.pins name) (state_value cell.state bit name)
+signal_value cell pins bit name = at_place pins (input_place cell.pins name) (state_value cell.state bit name)
 
 -- the level of the power or ground pin with a name
 abbrev pub level_at : Cell → List Tern → NameId → Tern

@@ -4,7 +4,7 @@ ghost use Rattle.lp_expr.specs.Formula.{value_of};
 ghost use Rattle.lp_behaviour.specs.Signals.{level_at, signal_value};
 ghost use Rattle.lp_behaviour.specs.Functions.{function_value, output_value, power_down_of, variable_values};
 
-use crate::signal::{place_of_pg, place_of_pin, value_in_state};
+use crate::signal::{place_of_input, place_of_pg, value_in_state};
 use lp_expr::{Expr, value};
 use lp_model::Cell;
 use lp_tern::{Tern, choose};
@@ -120,7 +120,7 @@ fn value_of_name(cell: &Cell, pins: &[Tern], bit: bool, name: NameId) -> Tern
     requires { length pins.now ≡ length cell.now.pins }
     ensures { result ≡ signal_value cell.now pins.now bit name }
 {
-    match place_of_pin(cell.pins.as_slice(), name) {
+    match place_of_input(cell.pins.as_slice(), name) {
         Some(place) => pins[place],
         None => value_in_state(&cell.state, bit, name),
     }

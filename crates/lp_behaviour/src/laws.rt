@@ -10,7 +10,7 @@ ghost use Rattle.lp_model.specs.declared.library.Action.{Action};
 ghost use Rattle.lp_model.specs.declared.library.Cell.{Cell};
 ghost use Rattle.lp_model.specs.declared.library.StateGroup.{StateGroup};
 ghost use Rattle.lp_model.specs.declared.library.StateKind.TheVariants.{Flop, Latch};
-ghost use Rattle.lp_behaviour.specs.Signals.{at_place, known, pin_place};
+ghost use Rattle.lp_behaviour.specs.Signals.{at_place, known, input_place};
 ghost use Rattle.lp_behaviour.specs.Functions.{function_value, variable_values};
 ghost use Rattle.lp_behaviour.specs.Registers.{fires_of, main_of, next_value};
 
@@ -25,7 +25,7 @@ pub fn value_by_bit()
 pub fn inverse_is_complement()
     ensures { (cell : Cell) (g : StateGroup) (pins : List Tern) (state : Tern)
         → cell.state ≡ Some g → g.var.0 ≢ g.inverse.0
-        → pin_place cell.pins g.var ≡ None → pin_place cell.pins g.inverse ≡ None
+        → input_place cell.pins g.var ≡ None → input_place cell.pins g.inverse ≡ None
         → function_value cell pins state (record { variables = g.var ∷ g.inverse ∷ []; steps = Variable 0 ∷ Variable 1 ∷ And ∷ [] }) ≡ Zero }
 {}
 
@@ -82,6 +82,6 @@ pub fn always_false()
 /// A function depends on the values of the pins that it names alone.
 pub fn named_pins_decide()
     ensures { (cell : Cell) (a b : List Tern) (state : Tern) (e : Formula)
-        → All (λ name. at_place a (pin_place cell.pins name) X ≡ at_place b (pin_place cell.pins name) X) e.variables
+        → All (λ name. at_place a (input_place cell.pins name) X ≡ at_place b (input_place cell.pins name) X) e.variables
         → function_value cell a state e ≡ function_value cell b state e }
 {}

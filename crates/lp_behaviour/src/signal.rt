@@ -1,16 +1,9 @@
 ghost use Rattle.std.specs.Prelude.{◌≡◌, ◌<◌, IfSome};
-ghost use Rattle.lp_behaviour.specs.Signals.{input_place, is_input, known, pg_place, pin_place, state_value};
+ghost use Rattle.lp_behaviour.specs.Signals.{input_place, is_input, known, pg_place, state_value};
 
 use lp_model::{Direction, PgPin, Pin, StateGroup};
 use lp_tern::Tern;
 use lp_text::NameId;
-
-/// The place of the pin with a name.
-pub(crate) fn place_of_pin(pins: &[Pin], name: NameId) -> Option<usize>
-    ensures { result ≡ pin_place pins.now name }
-{
-    pins.iter().position(|pin| pin.name.0 == name.0)
-}
 
 /// Whether a pin of a direction is an input.
 fn is_input(direction: Direction) -> bool

@@ -21,7 +21,7 @@ use Rattle.lp_spec_design.specs.Netlists.{Structure, cell_at, is_input}
 use Rattle.lp_spec_design.specs.Graph.{source_of}
 use Rattle.lp_spec_design.specs.Intents.{SetNumber}
 use Rattle.lp_spec_design.specs.Domains.{domain_of, primary_of, start_rail}
-use Rattle.lp_spec_design.specs.Settled.{Key, At, Of, pin_named, function_of, node_at_pin, Design, rail_of}
+use Rattle.lp_spec_design.specs.Settled.{read_pin, Key, At, Of, function_of, node_at_pin, Design, rail_of}
 use Rattle.lp_spec_design.specs.Reads.{set_keys, node_keys, some_node_keys, operator_keys, name_keys, function_keys, output_keys, source_keys, reads, keys}
 use Rattle.lp_spec_plain_module.specs.Designs.{design_of}
 use Rattle.lp_spec_plain_module.proofs.Plain.{no_operator}
@@ -72,7 +72,7 @@ option-Contains r b e = subst (λ o. Contains (option_to_list o) b) (sym e) (Con
 
 module _ (nets : List Name) (c : CellView) (nodes : Name → Option Node) (known : (v : Name) → PinNode nets (nodes v)) where
   abbrev pin_keys : Name → List Key
-  pin_keys v = name_keys (pin_named c v) (some_node_keys (nodes v))
+  pin_keys v = name_keys (read_pin c v) (some_node_keys (nodes v))
 
   -- the number of a row leads to a key
   abbrev Leads : List Key → ℕ → Name → Type 0
@@ -87,7 +87,7 @@ module _ (nets : List Name) (c : CellView) (nodes : Name → Option Node) (known
 
   pin_in : (others : List Key) (v : Name) → ((b : ℕ) (y : Name) → Contains (pin_row nets c nodes v) b → Leads others b y) → AllIn keys (pin_keys v) others
   pin_in others v each =
-      elim (pin_named c v) as (λ q. ((b : ℕ) (y : Name) → Contains (if_pin q (node_row nets (nodes v))) b → Leads others b y) → AllIn keys (name_keys q (some_node_keys (nodes v))) others) [
+      elim (read_pin c v) as (λ q. ((b : ℕ) (y : Name) → Contains (if_pin q (node_row nets (nodes v))) b → Leads others b y) → AllIn keys (name_keys q (some_node_keys (nodes v))) others) [
         | None ↦ λ h. tt
         | Some q ↦ λ h. node_in others (nodes v) (known v) h
       ] each
@@ -111,7 +111,7 @@ module _ (nets : List Name) (c : CellView) (nodes : Name → Option Node) (known
 
   pin_looks : (v : Name) (b : ℕ) → Contains (pin_row nets c nodes v) b → Looks (pin_keys v) b
   pin_looks v b h =
-      elim (pin_named c v) as (λ q. Contains (if_pin q (node_row nets (nodes v))) b → Looks (name_keys q (some_node_keys (nodes v))) b) [
+      elim (read_pin c v) as (λ q. Contains (if_pin q (node_row nets (nodes v))) b → Looks (name_keys q (some_node_keys (nodes v))) b) [
         | None ↦ λ g. absurd (omega (arith, g.1))
         | Some q ↦ λ g. node_looks (nodes v) (known v) b g
       ] h

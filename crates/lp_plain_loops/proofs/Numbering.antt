@@ -20,7 +20,7 @@ use Rattle.lp_plain_index.specs.Cells.{cell_numbered}
 use Rattle.lp_plain_index.proofs.Numbers.{place-below}
 use Rattle.lp_plain_loops.specs.declared.driver.Driver.{Driver}
 use Rattle.lp_plain_loops.specs.Rows.{note_at, row_of}
-use Rattle.lp_plain_loops.specs.Numbered.{Entry, net_numbers, is_in, is_out, named, net_at, pin_at, number_of, if_pin, name_row, function_row, function_at, output_row, driver_row, net_entries, pin_entries, cell_entries, instance_entries, port_entries, note, note_all, noted, rows, shown, all_shown}
+use Rattle.lp_plain_loops.specs.Numbered.{Entry, net_numbers, is_in, is_out, named, net_at, input_at, number_of, if_pin, name_row, function_row, function_at, output_row, driver_row, net_entries, pin_entries, cell_entries, instance_entries, port_entries, note, note_all, noted, rows, shown, all_shown}
 
 pub note_all-append : (nets : List ℕ) (found : List (Option (List ℕ))) (es fs : List Entry) → note_all nets found (es ++ fs) ≡ note_all nets (note_all nets found es) fs
 note_all-append nets found [] fs = refl
@@ -80,7 +80,7 @@ module _ (nets : List ℕ) where
   of_below (Some n) = number_below n.0 (place_of_number n.0 nets) refl
 
   name_below : (pins : List Pin) (cs : List Connection) (v : NameId) → IsBelow count (name_row nets pins cs v)
-  name_below pins cs v = elim (pin_at pins v.0) as (λ q. IsBelow count (option_to_list (if_pin q (number_of nets (net_at cs v.0))))) [ None ↦ tt | Some q ↦ of_below (net_at cs v.0) ]
+  name_below pins cs v = elim (input_at pins v.0) as (λ q. IsBelow count (option_to_list (if_pin q (number_of nets (net_at cs v.0))))) [ None ↦ tt | Some q ↦ of_below (net_at cs v.0) ]
 
   names_below : (pins : List Pin) (cs : List Connection) (vs : List NameId) → IsBelow count (flat_map (name_row nets pins cs) vs)
   names_below pins cs [] = tt

@@ -11,7 +11,7 @@ use Rattle.lp_spec_design.specs.Keys.{Name, Node, Inner, Outer, Fixed, PortBit, 
 use Rattle.lp_spec_design.specs.Netlists as nets_of
 use Rattle.lp_spec_design.specs.Netlists.{Structure, first, instance_named, module_named, module_at, cell_at, bits_named, connected, is_input, indices}
 use Rattle.lp_spec_design.specs.Graph.{from_port, is_output_pin, touches, when, some_of, and_more, from_one, from_assign, numbered, in_module, ports_in, sources_of, source_of, pin_node}
-use Rattle.lp_spec_design.specs.Settled.{pin_named, function_of, node_at_pin}
+use Rattle.lp_spec_design.specs.Settled.{read_pin, function_of, node_at_pin}
 use Rattle.lp_spec_plain_module.specs.Tests.{is_pg_name, are_distinct}
 use Rattle.lp_spec_plain_module.proofs.Lists.{name-self, turned, all-weaker}
 use Rattle.lp_spec_plain_netlist.specs.Single.{is_single_module}
@@ -32,7 +32,7 @@ node_row nets (Some (Outer n i)) = []
 node_row nets (Some (Fixed b)) = []
 
 abbrev pub pin_row : List Name → CellView → (Name → Option Node) → Name → List ℕ
-pin_row nets c nodes v = if_pin (pin_named c v) (node_row nets (nodes v))
+pin_row nets c nodes v = if_pin (read_pin c v) (node_row nets (nodes v))
 
 abbrev pub pins_row : List Name → CellView → (Name → Option Node) → Option ExprView → List ℕ
 pins_row nets c nodes None = []
@@ -189,7 +189,7 @@ module _ (cells : List CellView) (m : ModuleView) (single : is_single_module m �
 
       pins_same : (e : Option ExprView) → pins_row nets g.cell (λ v. node_at_pin s [] x.name v) e ≡ function_row nets g.cell x.connections e
       pins_same None = refl
-      pins_same (Some e) = ap (λ f. flat_map f e.variables) (λ r v. if_pin (pin_named g.cell v) ((ap (node_row nets) (node_is v) ∙ row_at v (connected [] v x.connections) refl) r))
+      pins_same (Some e) = ap (λ f. flat_map f e.variables) (λ r v. if_pin (read_pin g.cell v) ((ap (node_row nets) (node_is v) ∙ row_at v (connected [] v x.connections) refl) r))
 
       row_is : (q : Name) → output_row nets g.cell x.connections q ≡ source_row s nets (CellPin [] x.name q)
       row_is q = sym (ap (cell_row nets (λ v. node_at_pin s [] x.name v) q) cell_is ∙ pins_same (function_of g.cell q))

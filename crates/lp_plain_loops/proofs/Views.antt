@@ -1,5 +1,5 @@
 -- The rows by the numbers of names are those by their texts.
-use Rattle.std.proofs.Common.{◌≡◌, ℕ, ◌<◌, ◌==◌, true, false, cond, List, [], ◌∷◌, ◌++◌, length, Option, Some, None, refl, sym, ap, ◌∙◌, subst}
+use Rattle.std.proofs.Common.{◌≡◌, ℕ, ◌<◌, ◌==◌, true, false, ◌&&◌, cond, List, [], ◌∷◌, ◌++◌, length, Option, Some, None, refl, sym, ap, ◌∙◌, subst}
 use Rattle.std.specs.Prelude.{map, flat_map, replicate, bytes_eq, slice_get, option_to_list, ltb}
 use Rattle.std.specs.Option.{option_map, option_and_then}
 use Rattle.std.proofs.lemmas.Bool.{and_parts}
@@ -23,6 +23,7 @@ use Rattle.lp_model.specs.declared.library.Pin.{Pin}
 use Rattle.lp_model.specs.declared.library.Cell.{Cell}
 use Rattle.lp_model.specs.NetlistView.{bits_view, bits_numbers, port_view, port_numbers, net_view, net_numbers, connection_view, connection_numbers, connections_view, connections_numbers, instance_view, instance_numbers, assign_numbers, PortView, NetView, module_view, module_numbers}
 use Rattle.lp_model.specs.LibraryView.{PinView, expr_view, expr_numbers, pg_pin_numbers, pin_view, pin_numbers, state_numbers, roles_numbers, cell_view, cell_numbers}
+use Rattle.lp_behaviour.specs.Signals as signals
 use Rattle.lp_spec_design.specs.Netlists.{first, bits_named, is_input}
 use Rattle.lp_spec_design.specs.Graph.{is_output_pin}
 use Rattle.std.specs.List.{AllByRecursion}
@@ -98,6 +99,15 @@ module _ (texts : List (List ℕ)) (apart : distinct texts ≡ true) where
       ap (λ b. cond b (Some (pin_view texts q)) rest) (same_name texts apart q.name.0 n (below-head (length texts) q.name.0 _ here) l)
       ∙ elim (q.name.0 == n) as (λ b. cond b (Some (pin_view texts q)) rest ≡ option_map (pin_view texts) (cond b (Some q) (numbered.pin_at pins n))) [ true ↦ refl | false ↦ pin_same pins n l behind ]
 
+  read_same : (pins : List Pin) (n : ℕ) → n < length texts → Below texts (flat_map pin_numbers pins) → first (λ (q : PinView). signals.is_input q.direction && bytes_eq q.name (text_at texts n)) (map (pin_view texts) pins) ≡ option_map (pin_view texts) (numbered.input_at pins n)
+  read_same [] n l below = refl
+  read_same (q ∷ pins) n l below =
+      let here = below-left (length texts) (pin_numbers q) (flat_map pin_numbers pins) below in
+      let behind = below-right (length texts) (pin_numbers q) (flat_map pin_numbers pins) below in
+      let rest = first (λ (z : PinView). signals.is_input z.direction && bytes_eq z.name (text_at texts n)) (map (pin_view texts) pins) in
+      ap (λ b. cond (signals.is_input q.direction && b) (Some (pin_view texts q)) rest) (same_name texts apart q.name.0 n (below-head (length texts) q.name.0 _ here) l)
+      ∙ elim (signals.is_input q.direction && (q.name.0 == n)) as (λ b. cond b (Some (pin_view texts q)) rest ≡ option_map (pin_view texts) (cond b (Some q) (numbered.input_at pins n))) [ true ↦ refl | false ↦ read_same pins n l behind ]
+
   function_below : (pins : List Pin) (n : ℕ) → Below texts (flat_map pin_numbers pins) → Below texts (option_numbers expr_numbers (numbered.function_at pins n))
   function_below [] n below = refl
   function_below (q ∷ pins) n below =
@@ -152,8 +162,8 @@ module _ (texts : List (List ℕ)) (apart : distinct texts ≡ true) where
     module _ (c : Cell) (pins : Below texts (flat_map pin_numbers c.pins)) (cs : Connections) (joined : Below texts (connections_numbers cs)) where
       name_same : (v : NameId) → v.0 < length texts → texted.name_row names (cell_view texts c) (connections_view texts cs) (text_of v) ≡ numbered.name_row nets c.pins (named cs) v
       name_same v l =
-          (λ i. texted.if_pin (pin_same c.pins v.0 l pins i) ((ap (texted.number_of names) (at_same cs v.0 l joined) ∙ number_same (numbered.net_at (named cs) v.0) (at_below cs v.0 joined)) i))
-          ∙ pin_only (numbered.pin_at c.pins v.0) (numbered.number_of nets (numbered.net_at (named cs) v.0))
+          (λ i. texted.if_pin (read_same c.pins v.0 l pins i) ((ap (texted.number_of names) (at_same cs v.0 l joined) ∙ number_same (numbered.net_at (named cs) v.0) (at_below cs v.0 joined)) i))
+          ∙ pin_only (numbered.input_at c.pins v.0) (numbered.number_of nets (numbered.net_at (named cs) v.0))
 
       names_same : (vs : List NameId) → Below texts (name_numbers vs) → flat_map (texted.name_row names (cell_view texts c) (connections_view texts cs)) (name_texts texts vs) ≡ flat_map (numbered.name_row nets c.pins (named cs)) vs
       names_same [] below = refl

@@ -1,5 +1,5 @@
 -- The rows of a module by the numbers of names in place of their texts.
-use Rattle.std.specs.Prelude.{ℕ, ◌==◌, Bool, true, false, List, [], ◌∷◌, ◌++◌, map, flat_map, replicate, length, Option, Some, None, option_to_list, option_and_then, if◌then◌else◌}
+use Rattle.std.specs.Prelude.{ℕ, ◌==◌, Bool, true, false, ◌&&◌, List, [], ◌∷◌, ◌++◌, map, flat_map, replicate, length, Option, Some, None, option_to_list, option_and_then, if◌then◌else◌}
 use Rattle.lp_text.specs.declared.names.NameId.{NameId}
 use Rattle.lp_expr.specs.Formula.{Formula}
 use Rattle.lp_model.specs.declared.bits.Bit.{Bit}
@@ -15,6 +15,7 @@ use Rattle.lp_model.specs.declared.netlist.Instance.{Instance}
 use Rattle.lp_model.specs.declared.netlist.Module.{Module}
 use Rattle.lp_model.specs.declared.library.Pin.{Pin}
 use Rattle.lp_model.specs.declared.library.Cell.{Cell}
+use Rattle.lp_behaviour.specs.Signals.{is_input}
 use Rattle.lp_spec_design.specs.Netlists.{first}
 use Rattle.lp_plain_index.specs.Places.{place_of_number}
 use Rattle.lp_plain_index.specs.Cells.{cell_numbered}
@@ -54,6 +55,9 @@ net_at cs n = net_in (bits_at cs n)
 abbrev pub pin_at : List Pin → ℕ → Option Pin
 pin_at pins n = first (λ (q : Pin). q.name.0 == n) pins
 
+abbrev pub input_at : List Pin → ℕ → Option Pin
+input_at pins n = first (λ (q : Pin). is_input q.direction && (q.name.0 == n)) pins
+
 -- ---- rows
 
 abbrev pub number_of : List ℕ → Option NameId → Option ℕ
@@ -64,9 +68,9 @@ abbrev pub if_pin : Option Pin → Option ℕ → Option ℕ
 if_pin None number = None
 if_pin (Some q) number = number
 
--- the number of the net at the pin of a name
+-- the number of the net at the input pin of a name
 abbrev pub name_number : List ℕ → List Pin → List Connection → ℕ → Option ℕ
-name_number nets pins cs v = if_pin (pin_at pins v) (number_of nets (net_at cs v))
+name_number nets pins cs v = if_pin (input_at pins v) (number_of nets (net_at cs v))
 
 abbrev pub name_row : List ℕ → List Pin → List Connection → NameId → List ℕ
 name_row nets pins cs v = option_to_list (name_number nets pins cs v.0)

@@ -6,7 +6,7 @@ use Rattle.lp_model.specs.LibraryView.{ExprView, PinView, CellView}
 use Rattle.lp_spec_design.specs.Keys.{Name}
 use Rattle.lp_spec_design.specs.Netlists.{connected, is_input}
 use Rattle.lp_spec_design.specs.Graph.{is_output_pin}
-use Rattle.lp_spec_design.specs.Settled.{pin_named, function_of}
+use Rattle.lp_spec_design.specs.Settled.{read_pin, function_of}
 use Rattle.lp_spec_plain_netlist.specs.Fits.{cell_named}
 
 -- a net's number is its place in this list
@@ -25,13 +25,13 @@ abbrev pub number_of : List Name → Option Name → List ℕ
 number_of nets None = []
 number_of nets (Some n) = option_to_list (place_of n nets)
 
--- what a function reads by one of its names: the net at the pin of that name; a state variable is no pin
+-- what a function reads by one of its names: the net at the input pin of that name; a state variable is no pin
 abbrev pub if_pin : Option PinView → List ℕ → List ℕ
 if_pin None row = []
 if_pin (Some q) row = row
 
 abbrev pub name_row : List Name → CellView → ConnectionsView → Name → List ℕ
-name_row nets c cs v = if_pin (pin_named c v) (number_of nets (net_at cs v))
+name_row nets c cs v = if_pin (read_pin c v) (number_of nets (net_at cs v))
 
 abbrev pub function_row : List Name → CellView → ConnectionsView → Option ExprView → List ℕ
 function_row nets c cs None = []

@@ -1,8 +1,9 @@
 ghost use Rattle.std.specs.Prelude.{◌≡◌};
 ghost use Rattle.std.specs.Option.{option_copied};
-ghost use Rattle.lp_plain_loops.specs.Numbered.{named, net_in, net_at, pin_at};
+ghost use Rattle.lp_behaviour.specs.Signals.{is_input};
+ghost use Rattle.lp_plain_loops.specs.Numbered.{input_at, named, net_in, net_at, pin_at};
 
-use lp_model::{Bit, Connection, Connections, Pin};
+use lp_model::{Bit, Connection, Connections, Direction, Pin};
 use lp_text::NameId;
 
 /// The connections by name.
@@ -42,6 +43,25 @@ pub(crate) fn pin_at(pins: &[Pin], name: NameId) -> Option<&Pin>
 {
     for pin in pins {
         if pin.name.0 == name.0 {
+            return Some(pin);
+        }
+    }
+    None
+}
+
+/// Whether a pin of a direction is an input.
+fn is_input(direction: Direction) -> bool
+    ensures { result ≡ is_input direction }
+{
+    matches!(direction, Direction::Input)
+}
+
+/// The first input pin of a name.
+pub(crate) fn input_at(pins: &[Pin], name: NameId) -> Option<&Pin>
+    ensures { option_copied result ≡ input_at pins.now name.0 }
+{
+    for pin in pins {
+        if is_input(pin.direction) && pin.name.0 == name.0 {
             return Some(pin);
         }
     }

@@ -3,18 +3,18 @@ ghost use Rattle.lp_plain_loops.specs.Rows.{row_of};
 ghost use Rattle.lp_plain_loops.specs.Numbered.{name_number, name_row, function_row, output_row, driver_row, all_shown, shown, named};
 
 use crate::driver::Driver;
-use crate::pins::{named, net_at, pin_at};
+use crate::pins::{input_at, named, net_at, pin_at};
 use lp_model::{Connection, Pin};
 use lp_order::Graph;
 use lp_plain_index::NetIndex;
 use lp_text::{NameId, NoMemory};
 use std::alloc::Global;
 
-/// The number of the net at the pin of a name; none where the pin is open, or the name is no pin's.
+/// The number of the net at the input pin of a name; none where the pin is open, or the name is no input pin's.
 fn number_at(nets: &NetIndex, pins: &[Pin], connections: &[Connection], name: NameId) -> Option<u32>
     ensures { result ≡ name_number nets.now pins.now connections.now name.0 }
 {
-    let _pin = pin_at(pins, name)?;
+    let _pin = input_at(pins, name)?;
     let net = net_at(connections, name)?;
     nets.numbered(net)
 }

@@ -16,7 +16,7 @@ use Rattle.lp_spec_design.specs.Intents.{SetNumber, SupplySet, Origin, FromPort,
 use Rattle.lp_spec_design.specs.Domains.{domain_of, primary_of, start_rail}
 use Rattle.lp_spec_design.specs.Chains.{Operator, Clamp, Shift}
 use Rattle.lp_behaviour.specs.Signals.{known}
-use Rattle.lp_spec_design.specs.Settled.{Key, At, Of, Logic, State, Assignment, Event, Registers, Design, rail_of, operators_of, at, at_some, logic_in, state_in, is_on, both_on, set_at, set_on, kept, sensed, active_at, clamped, through, pin_named, state_named, value_named, named_value, function_of, output_by, output_of, node_at_pin, node_equation, origin_equation, equation}
+use Rattle.lp_spec_design.specs.Settled.{read_pin, Key, At, Of, Logic, State, Assignment, Event, Registers, Design, rail_of, operators_of, at, at_some, logic_in, state_in, is_on, both_on, set_at, set_on, kept, sensed, active_at, clamped, through, state_named, value_named, named_value, function_of, output_by, output_of, node_at_pin, node_equation, origin_equation, equation}
 use Rattle.lp_spec_design.specs.Reads.{set_keys_of, set_keys, node_keys, some_node_keys, control_keys, operator_keys, name_keys, function_keys, output_keys, source_keys, origin_keys, reads, keys}
 
 module _ (A B : Assignment) where
@@ -92,11 +92,11 @@ module _ (A B : Assignment) where
     value-same None k s h = refl
     value-same (Some q) k s h = at_some-same k h
 
-    values-same : (bit : Bool) (vs : List Name) → Agree (flat_map (λ v. name_keys (pin_named c v) (some_node_keys (pin v))) vs) → map (named_value c (λ v. at_some A (pin v)) bit) vs ≡ map (named_value c (λ v. at_some B (pin v)) bit) vs
+    values-same : (bit : Bool) (vs : List Name) → Agree (flat_map (λ v. name_keys (read_pin c v) (some_node_keys (pin v))) vs) → map (named_value c (λ v. at_some A (pin v)) bit) vs ≡ map (named_value c (λ v. at_some B (pin v)) bit) vs
     values-same bit [] h = refl
     values-same bit (v ∷ vs) h = λ r.
-        value-same (pin_named c v) (pin v) (state_named c.state bit v) (left (name_keys (pin_named c v) (some_node_keys (pin v))) (flat_map (λ u. name_keys (pin_named c u) (some_node_keys (pin u))) vs) h) r
-        ∷ values-same bit vs (right (name_keys (pin_named c v) (some_node_keys (pin v))) (flat_map (λ u. name_keys (pin_named c u) (some_node_keys (pin u))) vs) h) r
+        value-same (read_pin c v) (pin v) (state_named c.state bit v) (left (name_keys (read_pin c v) (some_node_keys (pin v))) (flat_map (λ u. name_keys (read_pin c u) (some_node_keys (pin u))) vs) h) r
+        ∷ values-same bit vs (right (name_keys (read_pin c v) (some_node_keys (pin v))) (flat_map (λ u. name_keys (read_pin c u) (some_node_keys (pin u))) vs) h) r
 
     function-same : (q : Tern) (e : Option ExprView) → Agree (function_keys c (λ v. some_node_keys (pin v)) e) → output_by c (λ v. at_some A (pin v)) q e ≡ output_by c (λ v. at_some B (pin v)) q e
     function-same q None h = refl

@@ -1,5 +1,5 @@
 -- A function over the texts of names is that over their numbers.
-use Rattle.std.proofs.Common.{◌≡◌, ℕ, ◌+◌, ◌<◌, ◌==◌, Bool, true, false, not, ◌||◌, cond, List, [], ◌∷◌, ◌++◌, length, Option, Some, None, refl, sym, ap, ◌∙◌}
+use Rattle.std.proofs.Common.{◌≡◌, ℕ, ◌+◌, ◌<◌, ◌==◌, Bool, true, false, not, ◌&&◌, ◌||◌, cond, List, [], ◌∷◌, ◌++◌, length, Option, Some, None, refl, sym, ap, ◌∙◌}
 use Rattle.std.specs.Prelude.{map, is_some, ltb, bytes_eq, if◌then◌else◌, slice_index_or}
 use Rattle.std.specs.List.{list_any, position, position_from, flat_map}
 use Rattle.std.specs.Option.{option_map}
@@ -69,18 +69,18 @@ module _ (texts : List (List ℕ)) (apart : distinct texts ≡ true) where
       same_from_decides (bytes_eq (text_at texts a) (text_at texts b)) (a == b) (bytes_eq-Decides (text_at texts a) (text_at texts b))
       ((λ e. ap (text_at texts) (eqb-true a b e)), (λ t. eq-eqb a b (injective a b l m t)))
 
-  any_pin : (pins : List Pin) (v : ℕ) → v < length texts → numbers_below (length texts) (flat_map pin_numbers pins) ≡ true → list_any (λ (q : PinView). bytes_eq q.name (text_at texts v)) (map (pin_view texts) pins) ≡ list_any (λ (p : Pin). p.name.0 == v) pins
+  any_pin : (pins : List Pin) (v : ℕ) → v < length texts → numbers_below (length texts) (flat_map pin_numbers pins) ≡ true → list_any (λ (q : PinView). numbers.is_input q.direction && bytes_eq q.name (text_at texts v)) (map (pin_view texts) pins) ≡ list_any (λ (p : Pin). numbers.is_input p.direction && (p.name.0 == v)) pins
   any_pin [] v l below = refl
   any_pin (p ∷ pins) v l below =
       let here = below-left (length texts) (pin_numbers p) (flat_map pin_numbers pins) below in
       let name = same_name p.name.0 v (below-head (length texts) p.name.0 _ here) l in
-      λ i. name i || any_pin pins v l (below-right (length texts) (pin_numbers p) (flat_map pin_numbers pins) below) i
+      λ i. (numbers.is_input p.direction && name i) || any_pin pins v l (below-right (length texts) (pin_numbers p) (flat_map pin_numbers pins) below) i
 
-  some_pin : (pins : List Pin) (v : NameId) → v.0 < length texts → numbers_below (length texts) (flat_map pin_numbers pins) ≡ true → is_some (first (λ (q : PinView). bytes_eq q.name (text_at texts v.0)) (map (pin_view texts) pins)) ≡ is_some (numbers.pin_place pins v)
+  some_pin : (pins : List Pin) (v : NameId) → v.0 < length texts → numbers_below (length texts) (flat_map pin_numbers pins) ≡ true → is_some (first (λ (q : PinView). numbers.is_input q.direction && bytes_eq q.name (text_at texts v.0)) (map (pin_view texts) pins)) ≡ is_some (numbers.input_place pins v)
   some_pin pins v l below =
-      is_some-first (λ (q : PinView). bytes_eq q.name (text_at texts v.0)) (map (pin_view texts) pins)
+      is_some-first (λ (q : PinView). numbers.is_input q.direction && bytes_eq q.name (text_at texts v.0)) (map (pin_view texts) pins)
       ∙ any_pin pins v.0 l below
-      ∙ sym (is_some-position (λ (p : Pin). p.name.0 == v.0) pins)
+      ∙ sym (is_some-position (λ (p : Pin). numbers.is_input p.direction && (p.name.0 == v.0)) pins)
 
   state : (g : Option StateGroup) (bit : Bool) (v : NameId) → v.0 < length texts → numbers_below (length texts) (option_numbers state_numbers g) ≡ true → by_text.state_named (option_map (state_view texts) g) bit (text_at texts v.0) ≡ numbers.state_value g bit v
   state None bit v l below = refl
@@ -120,7 +120,7 @@ module _ (texts : List (List ℕ)) (apart : distinct texts ≡ true) where
 
     one_name : (bit : Bool) (v : NameId) → v.0 < length texts → by_text.named_value (cell_view texts cell) seen bit (text_at texts v.0) ≡ numbers.signal_value cell pins bit v
     one_name bit v l =
-        value pins (first (λ (q : PinView). bytes_eq q.name (text_at texts v.0)) (map (pin_view texts) cell.pins)) (numbers.pin_place cell.pins v) (seen (text_at texts v.0))
+        value pins (first (λ (q : PinView). numbers.is_input q.direction && bytes_eq q.name (text_at texts v.0)) (map (pin_view texts) cell.pins)) (numbers.input_place cell.pins v) (seen (text_at texts v.0))
         (by_text.state_named (option_map (state_view texts) cell.state) bit (text_at texts v.0)) (numbers.state_value cell.state bit v)
         (some_pin cell.pins v l pins_below) (λ k e. sees v k e) (state cell.state bit v l state_below)
 

@@ -12,7 +12,7 @@ use Rattle.lp_spec_design.specs.Graph.{source_of}
 use Rattle.lp_spec_design.specs.Intents.{SetNumber, SupplySet, Origin, FromPort, FromSwitch, Strategy, Intent, Network}
 use Rattle.lp_spec_design.specs.Domains.{domain_of, primary_of, start_rail}
 use Rattle.lp_spec_design.specs.Chains.{Operator, Clamp, Shift}
-use Rattle.lp_spec_design.specs.Settled.{Key, At, Of, set_at, pin_named, function_of, node_at_pin, Design, rail_of, operators_of}
+use Rattle.lp_spec_design.specs.Settled.{read_pin, Key, At, Of, set_at, function_of, node_at_pin, Design, rail_of, operators_of}
 
 -- ---- what occurs
 
@@ -40,14 +40,14 @@ abbrev pub operator_keys : Network → Intent → Operator → List Key
 operator_keys n i (Clamp t s) = set_keys n (Some s) ++ control_keys (slice_get i.strategies t)
 operator_keys n i (Shift t a b) = set_keys n (Some a) ++ set_keys n (Some b)
 
--- the pins that a function names
+-- the input pins that a function names
 abbrev pub name_keys : Option PinView → List Key → List Key
 name_keys None keys = []
 name_keys (Some q) keys = keys
 
 abbrev pub function_keys : CellView → (Name → List Key) → Option ExprView → List Key
 function_keys c pins None = []
-function_keys c pins (Some e) = flat_map (λ v. name_keys (pin_named c v) (pins v)) e.variables
+function_keys c pins (Some e) = flat_map (λ v. name_keys (read_pin c v) (pins v)) e.variables
 
 abbrev pub output_keys : Design → Path → Name → Name → Option CellView → List Key
 output_keys d p x q None = []

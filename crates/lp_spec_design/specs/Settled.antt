@@ -9,7 +9,7 @@ use Rattle.lp_expr.specs.Formula.{truth, completions}
 use Rattle.lp_model.specs.NetlistView.{InstanceView}
 use Rattle.lp_model.specs.LibraryView.{ExprView, PinView, StateView, CellView}
 use Rattle.lp_rows.specs.Voltages.{under_of}
-use Rattle.lp_behaviour.specs.Signals.{known}
+use Rattle.lp_behaviour.specs.Signals.{is_input, known}
 use Rattle.lp_spec_design.specs.Keys.{Name, Path, Node, Outer, Fixed, Way, Source, CellPin, SwitchedPin, Environment, From}
 use Rattle.lp_spec_design.specs.Netlists.{Structure, first, module_at, cell_at, instance_named}
 use Rattle.lp_spec_design.specs.Graph.{source_of, pin_node}
@@ -104,6 +104,10 @@ through n i A v (Shift t a b ∷ operators) = through n i A (kept (set_on n A (S
 abbrev pub pin_named : CellView → Name → Option PinView
 pin_named c v = first (λ (q : PinView). bytes_eq q.name v) c.pins
 
+-- the pin that a name in a function stands for: an input pin, also where the state has the name; an output pin's name is no variable
+abbrev pub read_pin : CellView → Name → Option PinView
+read_pin c v = first (λ (q : PinView). is_input q.direction && bytes_eq q.name v) c.pins
+
 abbrev pub state_named : Option StateView → Bool → Name → Tern
 state_named (Some s) bit v = if bytes_eq s.var v then known bit else if bytes_eq s.inverse v then known (not bit) else X
 state_named None bit v = X
@@ -112,9 +116,9 @@ abbrev pub value_named : Option PinView → Tern → Tern → Tern
 value_named (Some q) pin state = pin
 value_named None pin state = state
 
--- the value of a name in a cell: a pin's, else the state bit's or its complement
+-- the value of a name in a function of a cell: an input pin's, else the state bit's or its complement
 abbrev pub named_value : CellView → (Name → Tern) → Bool → Name → Tern
-named_value c pins bit v = value_named (pin_named c v) (pins v) (state_named c.state bit v)
+named_value c pins bit v = value_named (read_pin c v) (pins v) (state_named c.state bit v)
 
 -- the value on which all replacements of unknown pins and of an unknown state bit agree, else X
 abbrev pub function_value : CellView → (Name → Tern) → Tern → ExprView → Tern

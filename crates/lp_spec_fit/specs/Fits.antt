@@ -16,7 +16,7 @@ use Rattle.lp_model.specs.declared.need.VoltagePair.{VoltagePair}
 use Rattle.lp_model.specs.LibraryView.{ExprView, SwitchedView, PgPinView, PinView, StateView, RolesView, CellView}
 use Rattle.lp_spec_design.specs.Keys.{Name, same_bool}
 use Rattle.lp_spec_design.specs.Graph.{numbered, is_output_pin}
-use Rattle.lp_spec_design.specs.Settled.{pin_named}
+use Rattle.lp_spec_design.specs.Settled.{read_pin, pin_named}
 use Rattle.lp_spec_pins.specs.Pins.{is_input_pin, is_data, takes, only, input_for}
 use Rattle.lp_spec_fit.specs.Equality.{are_equal}
 use Rattle.lp_spec_fit.specs.Needs.{ClampNeed, ShifterNeed, RegisterNeed, SwitchCellNeed}
@@ -141,13 +141,13 @@ same_signal (OfPin m) (OfPin n) = bytes_eq m n
 same_signal OfState OfState = true
 same_signal _ _ = false
 
--- what a name in a function of a cell stands for, and whether it is the complement of that
+-- what a name in a function of a cell stands for, an input pin before the state, and whether it is the complement of that
 abbrev pub state_signal : Option StateView → Name → Signal × Bool
 state_signal None v = (OfPin v, false)
 state_signal (Some g) v = if bytes_eq g.var v then (OfState, false) else if bytes_eq g.inverse v then (OfState, true) else (OfPin v, false)
 
 abbrev pub signal_of : CellView → Name → Signal × Bool
-signal_of c v = if is_some (pin_named c v) then (OfPin v, false) else state_signal c.state v
+signal_of c v = if is_some (read_pin c v) then (OfPin v, false) else state_signal c.state v
 
 abbrev pub value_where : CellView → ExprView → (Signal → Bool) → Bool
 value_where c e v = truth e.steps (map (λ name. if (signal_of c name).1 then not (v (signal_of c name).0) else v (signal_of c name).0) e.variables)

@@ -14,7 +14,7 @@ use Rattle.lp_model.specs.LibraryView.{ExprView, SwitchedView, PinView, CellView
 use Rattle.lp_spec_design.specs.Keys.{Name, Path, Node, Inner, Outer, Fixed, Source, CellPin, SwitchedPin, Environment, From}
 use Rattle.lp_spec_design.specs.Netlists.{cell_at}
 use Rattle.lp_spec_design.specs.Graph.{source_of}
-use Rattle.lp_spec_design.specs.Settled.{Logic, State, Registers, logic_in, state_in, kept, pin_named, node_at_pin, state_named, value_named, named_value, output_by}
+use Rattle.lp_spec_design.specs.Settled.{read_pin, Logic, State, Registers, logic_in, state_in, kept, pin_named, node_at_pin, state_named, value_named, named_value, output_by}
 use Rattle.lp_spec_pins.specs.Pins.{SupplySource, FromTop, FromSwitched, SupplyNodes, Powered, PinKey, Signal, Supply, PinAssignment, PinEvent, signal_at, begins, supply_of_node, state_from, source_of_pg, state_of_ground, pair_on, related, state_pair, related_of_pin, related_of, pin_supply_begun, driver_begun, some_under, is_joined, is_input_pin, input_value, pin_value, pins_read, onness, pg_named, sources_named, is_zero_for, is_up, outside_by, input_for, is_data, driving_pin, input_supply, is_unfit_at, output_at, cell_output_at, top_input, signal_equation, switched_of, switched_state, switch_equation, pin_equation}
 use Rattle.lp_spec_pins.specs.Reads.{supply_keys, pair_keys, pg_keys, ground_keys, related_keys, related_of_pin_keys, related_of_keys, pin_supply_keys, driver_keys, driving_keys, signal_keys, input_keys, pin_keys, named_keys, function_keys, up_keys, driving_pin_keys, shifted_keys, unfit_keys_at, unfit_keys, output_keys, cell_keys, top_keys, source_keys, switched_keys, switch_keys, reads, keys}
 
@@ -102,13 +102,14 @@ module _ (w : Powered) (A B : PinAssignment) where
     pin-same (Some q) None h = refl
     pin-same (Some q) (Some k) h = input-same q k (is_input_pin q) h
 
-    named-same : (v : Name) → Agree (named_keys w p x c v) → pins_read w A p x c v ≡ pins_read w B p x c v
-    named-same v h = pin-same (pin_named c v) (node_at_pin w.structure p x v) h
+    named-same : (v : Name) (q : Option PinView) (s : Tern) → Agree (read_keys q (pin_keys w p x c (pin_named c v) (node_at_pin w.structure p x v))) → value_named q (pins_read w A p x c v) s ≡ value_named q (pins_read w B p x c v) s
+    named-same v None s h = refl
+    named-same v (Some q) s h = pin-same (pin_named c v) (node_at_pin w.structure p x v) h
 
     values-same : (bit : Bool) (vs : List Name) → Agree (flat_map (named_keys w p x c) vs) → map (named_value c (pins_read w A p x c) bit) vs ≡ map (named_value c (pins_read w B p x c) bit) vs
     values-same bit [] h = refl
     values-same bit (v ∷ vs) h = λ r.
-        value_named (pin_named c v) (named-same v (left (named_keys w p x c v) (flat_map (named_keys w p x c) vs) h) r) (state_named c.state bit v)
+        named-same v (read_pin c v) (state_named c.state bit v) (left (named_keys w p x c v) (flat_map (named_keys w p x c) vs) h) r
         ∷ values-same bit vs (right (named_keys w p x c v) (flat_map (named_keys w p x c) vs) h) r
 
     function-same : (q : Tern) (e : Option ExprView) → Agree (function_keys w p x c e) → output_by c (pins_read w A p x c) q e ≡ output_by c (pins_read w B p x c) q e

@@ -9,7 +9,7 @@ use Rattle.lp_model.specs.LibraryView.{ExprView, SwitchedView, PgPinView, PinVie
 use Rattle.lp_spec_design.specs.Keys.{Name, Path, same_path, Node, Inner, Outer, Fixed, same_node, Source, CellPin, SwitchedPin, Environment, From}
 use Rattle.lp_spec_design.specs.Netlists.{cell_at}
 use Rattle.lp_spec_design.specs.Graph.{source_of}
-use Rattle.lp_spec_design.specs.Settled.{pin_named, node_at_pin}
+use Rattle.lp_spec_design.specs.Settled.{pin_named, read_pin, node_at_pin}
 use Rattle.lp_spec_design.specs.Reads.{one, other, both, name-true, name-self, path-true, path-self, node-true, node-self}
 use Rattle.lp_spec_pins.specs.Pins.{SupplySource, FromTop, FromSwitched, same_source, SupplyNodes, Powered, PinKey, Signal, Supply, begins, supply_of_node, source_of_pg, pg_named, sources_named, input_for, is_data, is_input_pin, switched_of}
 
@@ -72,8 +72,13 @@ pin_keys w p x c None k = []
 pin_keys w p x c (Some q) None = []
 pin_keys w p x c (Some q) (Some k) = input_keys w p x c q k (is_input_pin q)
 
+-- a function names input pins
+abbrev pub read_keys : Option PinView → List PinKey → List PinKey
+read_keys None keys = []
+read_keys (Some q) keys = keys
+
 abbrev pub named_keys : Powered → Path → Name → CellView → Name → List PinKey
-named_keys w p x c v = pin_keys w p x c (pin_named c v) (node_at_pin w.structure p x v)
+named_keys w p x c v = read_keys (read_pin c v) (pin_keys w p x c (pin_named c v) (node_at_pin w.structure p x v))
 
 abbrev pub function_keys : Powered → Path → Name → CellView → Option ExprView → List PinKey
 function_keys w p x c None = []

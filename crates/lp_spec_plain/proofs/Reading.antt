@@ -1,5 +1,5 @@
 -- What nodes and pins of a netlist that carries a plain design read.
-use Rattle.std.proofs.Common.{◌≡◌, ℕ, zero, suc, ◌+◌, Bool, true, false, not, ◌||◌, cond, List, [], ◌∷◌, map, Option, Some, None, ◌⊎◌, inl, inr, refl, sym, ◌∙◌, ap, subst, arith}
+use Rattle.std.proofs.Common.{◌≡◌, ℕ, zero, suc, ◌+◌, Bool, true, false, not, ◌&&◌, ◌||◌, cond, List, [], ◌∷◌, map, Option, Some, None, ◌⊎◌, inl, inr, refl, sym, ◌∙◌, ap, subst, arith}
 use Rattle.std.specs.Prelude.{is_none, bytes_eq, slice_get, if◌then◌else◌, flat_map}
 use Rattle.std.specs.List.{list_all}
 use Rattle.std.proofs.lemmas.Bool.{and_parts, false≢true, le-ltb}
@@ -12,12 +12,13 @@ use Rattle.lp_tern.specs.Values.{replacements, agreed}
 use Rattle.lp_expr.specs.Formula.{truth, completions}
 use Rattle.lp_model.specs.LibraryView.{ExprView, PgPinView, PinView, CellView}
 use Rattle.lp_rows.specs.Voltages.{under_of}
+use Rattle.lp_behaviour.specs.Signals.{is_input}
 use Rattle.lp_spec_design.specs.Keys.{Name, Path, Node, Inner, Outer, Fixed, Source, CellPin, SwitchedPin, Environment, From}
 use Rattle.lp_spec_design.specs.Netlists.{first, cell_at}
 use Rattle.lp_spec_design.specs.Nodes.{fuel_of}
 use Rattle.lp_spec_design.specs.Graph.{source_of, trail, going_back, way_in, beginning}
 use Rattle.lp_spec_design.specs.Intents.{SupplySet}
-use Rattle.lp_spec_design.specs.Settled.{Assignment, Design, at, at_some, kept, pin_named, state_named, value_named, named_value, function_value, output_by, node_at_pin, pins_at}
+use Rattle.lp_spec_design.specs.Settled.{Assignment, Design, at, at_some, kept, pin_named, read_pin, state_named, value_named, named_value, function_value, output_by, node_at_pin, pins_at}
 use Rattle.lp_spec_pins.specs.Pins.{FromTop, SupplyNodes, Powered, PinAssignment, Pair, state_from, state_pair, signal_at, begins, supply_begun, supply_of_node, state_of_pg, state_of_ground, related, related_of_pin, related_of, pin_supply_begun, driver_begun, driving, some_under, is_joined, read_by, is_power, is_input_pin, input_value, pin_value, pins_read}
 use Rattle.lp_spec_plain.specs.Cells.{follows, is_power_at, is_ground_at, has_ground, is_related_pin, is_plain_state, loses_with_supply, takes_one_supply, is_plain_cell}
 use Rattle.lp_spec_plain.specs.Designs.{IsPlain}
@@ -225,15 +226,31 @@ module _ (d : Design) (one : SupplySet) (plain : IsPlain d one) (w : Powered) (o
       pub pins-same : SamePins (pins_read w B p x c) (pins_at d.structure A p x)
       pins-same = read-same
 
+-- an input pin of a name is a pin of that name
+read_is_named : (v : Name) (pins : List PinView) (q : PinView) → first (λ (r : PinView). is_input r.direction && bytes_eq r.name v) pins ≡ Some q → (r : PinView) × (first (λ (r : PinView). bytes_eq r.name v) pins ≡ Some r)
+read_is_named v [] q e = absurd (cc)
+read_is_named v (p ∷ pins) q e = by (is_input p.direction) (bytes_eq p.name v) (read_is_named v pins q) e
+  where
+    inputs : Option PinView
+    inputs = first (λ (r : PinView). is_input r.direction && bytes_eq r.name v) pins
+
+    named : Option PinView
+    named = first (λ (r : PinView). bytes_eq r.name v) pins
+
+    by : (a b : Bool) → (inputs ≡ Some q → (r : PinView) × (named ≡ Some r)) → (if a && b then Some p else inputs) ≡ Some q → (r : PinView) × ((if b then Some p else named) ≡ Some r)
+    by a true more h = (p, refl)
+    by true false more h = more h
+    by false false more h = more h
+
 -- functions look at pins of their cell alone
 module _ (c : CellView) (f g : Name → Tern) (same : (v : Name) (q : PinView) → pin_named c v ≡ Some q → f v ≡ g v) where
-  value-same : (v : Name) (q : Option PinView) (s : Tern) → pin_named c v ≡ q → value_named q (f v) s ≡ value_named q (g v) s
+  value-same : (v : Name) (q : Option PinView) (s : Tern) → read_pin c v ≡ q → value_named q (f v) s ≡ value_named q (g v) s
   value-same v None s is = refl
-  value-same v (Some q) s is = same v q is
+  value-same v (Some q) s is = let named = read_is_named v c.pins q is in same v named.0 named.1
 
   values-same : (bit : Bool) (vs : List Name) → map (named_value c f bit) vs ≡ map (named_value c g bit) vs
   values-same bit [] = refl
-  values-same bit (v ∷ vs) = λ i. value-same v (pin_named c v) (state_named c.state bit v) refl i ∷ values-same bit vs i
+  values-same bit (v ∷ vs) = λ i. value-same v (read_pin c v) (state_named c.state bit v) refl i ∷ values-same bit vs i
 
   pub function-same : (q : Tern) (e : ExprView) → function_value c f q e ≡ function_value c g q e
   function-same q e = λ i. agreed (flat_map (λ bit. map (truth e.steps) (completions (values-same bit e.variables i))) (replacements q))
