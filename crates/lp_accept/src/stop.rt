@@ -7,7 +7,7 @@ use lp_text::{Bytes, Names, NoMemory};
 use std::alloc::{AllocError, AllocFailed, Global};
 
 /// Why the texts of an insertion give no design.
-#[derive(Debug, Drop)]
+#[derive(Drop)]
 pub enum Stop {
     /// The line of the first fault, without its line feed.
     Fault(Bytes),
