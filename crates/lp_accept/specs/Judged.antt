@@ -1,5 +1,5 @@
 -- The judging stages: a module and its intent against the cells.
-use Rattle.std.specs.Prelude.{◌≡◌, ℕ, Bool, ◌≤◌, ◌⊎◌, true, false, List, [], ◌∷◌, map, length, Some, None}
+use Rattle.std.specs.Prelude.{◌≡◌, ℕ, Bool, ◌≤◌, ◌⊎◌, true, false, List, [], ◌∷◌, map, length, Some, None, Result}
 use Rattle.std.specs.List.{list_all}
 use Rattle.lp_model.specs.Agreement.{numbers_below}
 use Rattle.lp_model.specs.declared.library.Cell.{Cell}
@@ -16,7 +16,10 @@ use Rattle.lp_spec_plain_netlist.specs.Fits.{first_unknown, is_fit, are_plain, a
 use Rattle.lp_spec_plain_netlist.specs.Flats.{flat_of, HasLoop, IsOrdered}
 use Rattle.lp_spec_insertion.specs.Inputs.{Inputs, Accepts}
 use Rattle.lp_spec_insertion.specs.Faults.{not_yet, unknown_module}
+use Rattle.lp_model.specs.declared.netlist.Module.{Module}
 use Rattle.lp_accept.specs.declared.accepted.Accepted.{Accepted}
+use Rattle.lp_accept.specs.declared.stop.Stop.{Stop}
+use Rattle.lp_accept.specs.Stages.{OrStop}
 
 -- which cells lose their outputs and their state exactly where their one supply is not on
 abbrev pub losing : List (List ℕ) → List Cell → List Bool
@@ -80,6 +83,20 @@ pub record UnsoundUnder (cells : List CellView) (m : ModuleView) (text line : Li
 
 abbrev pub Unjudged : List CellView → ModuleView → List ℕ → List ℕ → Type 0
 Unjudged cells m text line = Misfits cells m line ⊎ (Fitting cells m × (NoIntent text line ⊎ UnsoundUnder cells m text line))
+
+-- what each stage gives, or the fault that is its own
+abbrev pub OneOrStop : List (List ℕ) → List ModuleView → Result Module Stop → Type 0
+OneOrStop names modules result =
+    OrStop (λ m. IsOne modules (module_view names m) × (numbers_below (length names) (module_numbers m) ≡ true)) (IsNotOne modules) result
+
+abbrev pub FitOrStop : {T : Type 0} → List CellView → ModuleView → Result T Stop → Type 0
+FitOrStop cells m result = OrStop (λ _. Fitting cells m) (Misfits cells m) result
+
+abbrev pub SoundOrStop : {T : Type 0} → List CellView → ModuleView → Result T Stop → Type 0
+SoundOrStop cells m result = OrStop (λ _. Sound cells m) (Unsound cells m) result
+
+abbrev pub JudgedOrStop : List CellView → ModuleView → List ℕ → Result Intent Stop → Type 0
+JudgedOrStop cells m text result = OrStop (Judged cells m text) (Unjudged cells m text) result
 
 -- ---- the design of the inputs
 

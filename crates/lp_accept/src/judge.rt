@@ -9,7 +9,7 @@ ghost use Rattle.lp_spec_plain_netlist.specs.Single.{is_single_module};
 ghost use Rattle.lp_spec_plain_netlist.specs.Fits.{are_read};
 ghost use Rattle.lp_spec_insertion.specs.Faults.{not_yet as line_not_yet, unknown_module as line_unknown};
 ghost use Rattle.lp_accept.specs.Stages.{IsLine, OrStop};
-ghost use Rattle.lp_accept.specs.Judged.{IsOne, IsNotOne, Fitting, Misfits, NoIntent, Sound, Unsound, Judged, Unjudged};
+ghost use Rattle.lp_accept.specs.Judged.{OneOrStop, Fitting, FitOrStop, NoIntent, SoundOrStop, JudgedOrStop};
 
 use crate::plain::are_plain;
 use crate::stop::{Stop, stop_at};
@@ -43,7 +43,7 @@ fn unknown(alloc: Global, names: &Names, source: &Module, instance: &Instance) -
 /// The one module of a netlist of the form that is taken.
 pub(crate) fn one_module(alloc: Global, names: &Names, netlist: Netlist) -> Result<Module, Stop>
     requires { numbers_below (length names.now) (netlist_numbers netlist) ≡ true }
-    ensures gives { OrStop (λ m. IsOne (netlist_view names.now netlist) (module_view names.now m) × (numbers_below (length names.now) (module_numbers m) ≡ true)) (IsNotOne (netlist_view names.now netlist)) result }
+    ensures gives { OneOrStop names.now (netlist_view names.now netlist) result }
 {
     if !is_single(names, &netlist) {
         return Err(not_yet(alloc, names, 4));
@@ -64,7 +64,7 @@ fn check_fit(
 ) -> Result<(), Stop>
     requires cells { numbers_below (length names.now) (flat_map cell_numbers index.now) ≡ true }
     requires source { numbers_below (length names.now) (module_numbers source.now) ≡ true }
-    ensures { OrStop (λ _. Fitting (map (cell_view names.now) index.now) (module_view names.now source.now)) (Misfits (map (cell_view names.now) index.now) (module_view names.now source.now)) result }
+    ensures { FitOrStop (map (cell_view names.now) index.now) (module_view names.now source.now) result }
 {
     if let Some(instance) = unknown_target(index, names, source) {
         return Err(unknown(alloc, names, source, instance));
@@ -98,7 +98,7 @@ fn check_sound(
     requires read { are_read (map (cell_view names.now) index.now) (module_view names.now source.now) ≡ true }
     requires fits { Fitting (map (cell_view names.now) index.now) (module_view names.now source.now) }
     requires few { length names.now ≤ 1140850689 }
-    ensures { OrStop (λ _. Sound (map (cell_view names.now) index.now) (module_view names.now source.now)) (Unsound (map (cell_view names.now) index.now) (module_view names.now source.now)) result }
+    ensures { SoundOrStop (map (cell_view names.now) index.now) (module_view names.now source.now) result }
 {
     let plain = are_plain(alloc, index, names, source)?;
     if !plain {
@@ -125,7 +125,7 @@ pub(crate) fn judge(
     requires read { are_read (map (cell_view names.now) cells.now) (module_view names.now source.now) ≡ true }
     requires few { length names.now ≤ 1140850689 }
     requires few_cells { length cells.now ≤ 1140850689 }
-    ensures { OrStop (Judged (map (cell_view names.now) cells.now) (module_view names.now source.now) upf.now) (Unjudged (map (cell_view names.now) cells.now) (module_view names.now source.now) upf.now) result }
+    ensures { JudgedOrStop (map (cell_view names.now) cells.now) (module_view names.now source.now) upf.now result }
 {
     let index = CellIndex::new(alloc, names.count(), cells)?;
     match check_fit(alloc, &index, names, source) {

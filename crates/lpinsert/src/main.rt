@@ -1,8 +1,12 @@
 //! The command `lpinsert`: words in, files out, and a status.
 #![tactic(auto)]
 
-use lp_text::{FileShelf, Word};
+ghost use Rattle.std.specs.Process.{exit_status};
+ghost use Rattle.lpinsert.specs.Exits.{told, ExitsBy};
+
+use lp_text::{FileShelf, Shelf, Word};
 use lp_top::{run, status};
+use std::alloc::Global;
 use std::process::ExitCode;
 use std::{env, io};
 
@@ -18,12 +22,17 @@ fn words(rt: &HostRuntime) -> io::Result<Vec<Word>> {
     Ok(words)
 }
 
-fn main(rt: HostRuntime) -> ExitCode {
-    let words = match words(&rt) {
-        Ok(words) => words,
-        Err(_) => return ExitCode::from(REFUSED),
-    };
-    let mut shelf = FileShelf::new(&rt, &rt);
-    let outcome = run(rt.alloc(), &words, &mut shelf);
+/// Runs the command that the words are, once. The exit code is the status of its outcome.
+fn execute<S: Shelf>(alloc: Global, words: &[Word], shelf: &mut S) -> ExitCode
+    ensures { ExitsBy words.now (exit_status result) (told S.held S.said S.faults shelf.old) (told S.held S.said S.faults shelf.new) }
+{
+    let outcome = run(alloc, words, shelf);
     ExitCode::from(status(&outcome))
+}
+
+fn main(rt: HostRuntime) -> ExitCode {
+    match words(&rt) {
+        Ok(words) => execute(rt.alloc(), &words, &mut FileShelf::new(&rt, &rt)),
+        Err(_) => ExitCode::from(REFUSED),
+    }
 }
