@@ -4,6 +4,7 @@ mod ComputedFields
 mod ComputedNetlists
 mod ComputedTable
 mod ComputedWires
+pub mod Depth
 pub mod Loops
 pub mod Ordered
 mod SupplyLines
