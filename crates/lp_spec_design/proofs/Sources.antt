@@ -70,7 +70,7 @@ in_filter p (y ∷ xs) x h e = by (p y) refl (λ r. in_filter p xs x r e)
     by false f more = elim h [ inl is ↦ absurd (false≢true (sym f ∙ ap p (sym is) ∙ e)) | inr r ↦ more r ]
 
 module _ (s : Structure) where
-  child_of : (i : Name) (p : Path) (m : ModuleView) → module_at s (i ∷ p) ≡ Some m → (outer : ModuleView) × (module_at s p ≡ Some outer) × IsIn (i ∷ p) (children s p)
+  pub child_of : (i : Name) (p : Path) (m : ModuleView) → module_at s (i ∷ p) ≡ Some m → (outer : ModuleView) × (module_at s p ≡ Some outer) × IsIn (i ∷ p) (children s p)
   child_of i p m e =
       let above = then_is (λ (x : ModuleView). option_and_then (λ (y : InstanceView). module_named s y.target) (instance_named x i)) (module_at s p) m e in
       let inst = then_is (λ (y : InstanceView). module_named s y.target) (instance_named above.0 i) m above.2 in
@@ -79,7 +79,7 @@ module _ (s : Structure) where
       let listed : IsIn (inst.0.name ∷ p) (children_in s p (Some above.0)) = in-map (λ (y : InstanceView). y.name ∷ p) inst.0 (filter (λ (y : InstanceView). is_some (module_named s y.target)) above.0.instances) kept in
       (above.0, above.1, subst (λ o. IsIn (i ∷ p) (children_in s p o)) (sym above.1) (subst (λ n. IsIn (n ∷ p) (children_in s p (Some above.0))) (name-true inst.0.name i found.1) listed))
 
-  in_reach : (depth : ℕ) (p : Path) (m : ModuleView) → module_at s p ≡ Some m → length p < depth → IsIn p (below s depth [])
+  pub in_reach : (depth : ℕ) (p : Path) (m : ModuleView) → module_at s p ≡ Some m → length p < depth → IsIn p (below s depth [])
   in_reach zero p m e short = absurd (omega arith)
   in_reach (suc depth) [] m e short = inl refl
   in_reach (suc depth) (i ∷ p) m e short =

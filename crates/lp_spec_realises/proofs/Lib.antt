@@ -1,4 +1,5 @@
 mod Computed
+pub mod Fuels
 mod Judged
 pub mod Netlists
 pub mod Places

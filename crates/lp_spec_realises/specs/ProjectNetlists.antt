@@ -1,15 +1,14 @@
 -- What a netlist of a project is, whatever it computes: it elaborates over the project's cells, and its top has the source's ports and the supply ports (IEEE 1364-2005, hierarchical structures, port connections, continuous assignments; own rule).
-use Rattle.std.specs.Prelude.{ℕ, ◌==◌, nat_le, nat_lt, Bool, true, not, ◌&&◌, ◌||◌, List, [], ◌∷◌, ◌++◌, map, length, Option, Some, None, is_some, is_none, bytes_eq, flat_map, IsTrue}
+use Rattle.std.specs.Prelude.{◌≡◌, ℕ, ◌==◌, nat_le, nat_lt, Bool, true, false, not, ◌&&◌, ◌||◌, List, [], ◌∷◌, ◌++◌, map, length, Option, Some, None, is_some, is_none, bytes_eq, flat_map, IsTrue}
 use Rattle.std.specs.List.{list_any, list_all}
-use Rattle.lp_model.specs.NetlistView.{BitView, NetBit, SelectBit, ConstBit, PortView, NetView, ConnectionView, ConnectionsView, ByName, ByPosition, InstanceView, AssignView, ModuleView}
-use Rattle.lp_spec_design.specs.Keys.{Name, Node, same_index}
-use Rattle.lp_spec_design.specs.Netlists.{Structure, module_named, cell_named, is_input}
-use Rattle.lp_spec_design.specs.Instances.{below}
-use Rattle.lp_spec_design.specs.Nodes.{nodes_of, fuel_of}
-use Rattle.lp_spec_design.specs.Graph.{sources_of, wire_source, way_in, numbered, some_of}
+use Rattle.lp_model.specs.NetlistView.{BitView, NetBit, SelectBit, ConstBit, PortView, NetView, InstanceView, ModuleView}
+use Rattle.lp_spec_design.specs.Keys.{Name, Path, Node, Inner, same_node}
+use Rattle.lp_spec_design.specs.Netlists.{Structure, module_named, cell_named, module_at, is_input}
+use Rattle.lp_spec_design.specs.Instances.{module_instances, below}
+use Rattle.lp_spec_design.specs.Nodes.{nodes_in, nodes_of, has_wire_loop, joined_bits}
+use Rattle.lp_spec_design.specs.Graph.{sources_of, numbered, some_of}
 use Rattle.lp_spec_design.specs.Intents.{Origin, FromPort, FromSwitch}
 use Rattle.lp_spec_realises.specs.Projects.{Project, network_of, port_of_origin}
-use Rattle.lp_spec_realises.specs.Controls.{is_scalar, all_bits}
 use Rattle.lp_spec_realises.specs.Tops.{top_ports, has_port_name, has_port}
 
 -- the modules of a netlist over the cells of the project
@@ -21,10 +20,6 @@ netlist_of p modules = record { modules = modules; cells = p.structure.cells }
 -- each node has at most one source
 abbrev pub has_single_source : Structure → Node → Bool
 has_single_source w k = nat_le (length (sources_of w k)) 1
-
--- no wire loop: what each wire begins in is no way
-abbrev pub has_beginning : Structure → Node → Bool
-has_beginning w k = is_none (way_in (wire_source w (fuel_of w) k))
 
 -- the target of each instance is a module or a cell
 abbrev pub is_known : Structure → InstanceView → Bool
@@ -45,22 +40,16 @@ names_in m = map (λ (q : PortView). q.name) m.ports ++ (map (λ (n : NetView). 
 abbrev pub has_names_apart : List ModuleView → Bool
 has_names_apart modules = are_apart (map (λ (m : ModuleView). m.name) modules) && list_all (λ m. are_apart (names_in m)) modules
 
--- the bits that the connections and assigns of a module have
-abbrev pub bits_connected : ConnectionsView → List BitView
-bits_connected (ByName cs) = flat_map (λ (c : ConnectionView). c.bits) cs
-bits_connected (ByPosition values) = flat_map (λ bits. bits) values
+-- a constant, or one of the nodes of the instance; what is not declared otherwise is a scalar net by its use
+abbrev pub is_declared : Path → List Node → BitView → Bool
+is_declared p nodes (ConstBit b) = true
+is_declared p nodes (NetBit n) = list_any (same_node (Inner n None p)) nodes
+is_declared p nodes (SelectBit n i) = list_any (same_node (Inner n (Some i) p)) nodes
 
-abbrev pub bits_used : ModuleView → List BitView
-bits_used m = flat_map (λ (x : InstanceView). bits_connected x.connections) m.instances ++ flat_map (λ (a : AssignView). a.left ++ a.right) m.assigns
-
--- a constant, or a bit of a port or net of the module; what is not declared otherwise is a scalar net by its use
-abbrev pub is_declared : ModuleView → BitView → Bool
-is_declared m (ConstBit b) = true
-is_declared m (NetBit n) = list_any (is_scalar n) (all_bits m)
-is_declared m (SelectBit n i) = list_any (λ x. same_index x.1 (Some i) && bytes_eq x.0 n) (all_bits m)
-
-abbrev pub declares_its_bits : ModuleView → Bool
-declares_its_bits m = list_all (is_declared m) (bits_used m)
+-- each bit that a module instance joins is declared
+abbrev pub declares_its_bits : Path → Option ModuleView → Bool
+declares_its_bits p None = true
+declares_its_bits p (Some m) = list_all (is_declared p (nodes_in p (Some m))) (joined_bits m)
 
 -- module instances are at most 64 deep, the top among them
 abbrev pub is_shallow : Structure → Bool
@@ -94,10 +83,10 @@ has_origin p w o = list_any (is_scalar_input (port_of_origin p o)) (top_ports w)
 
 pub record IsProjectNetlist (p : Project) (modules : List ModuleView) : Type 0 where
   pub one_source : IsTrue (list_all (has_single_source (netlist_of p modules)) (nodes_of (netlist_of p modules)))
-  pub no_loop : IsTrue (list_all (has_beginning (netlist_of p modules)) (nodes_of (netlist_of p modules)))
+  pub no_loop : has_wire_loop (netlist_of p modules) ≡ false
   pub known : IsTrue (knows_its_targets (netlist_of p modules))
   pub names_apart : IsTrue (has_names_apart modules)
-  pub declared : IsTrue (list_all declares_its_bits modules)
+  pub declared : IsTrue (list_all (λ path. declares_its_bits path (module_at (netlist_of p modules) path)) (module_instances (netlist_of p modules)))
   pub shallow : IsTrue (is_shallow (netlist_of p modules))
   pub origins_apart : IsTrue (has_origins_apart p)
   pub origins : IsTrue (list_all (has_origin p (netlist_of p modules)) (port_origins p))

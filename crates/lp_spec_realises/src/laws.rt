@@ -3,11 +3,12 @@ ghost use Rattle.std.specs.Prelude.{◌≡◌, List, true};
 ghost use Rattle.lp_model.specs.NetlistView.{ModuleView};
 ghost use Rattle.lp_spec_design.specs.Keys.{Name};
 ghost use Rattle.lp_spec_design.specs.Netlists.{Structure};
+ghost use Rattle.lp_spec_design.specs.Nodes.{HasFuel, HasItsNodes};
 ghost use Rattle.lp_spec_design.specs.Settled.{Event};
 ghost use Rattle.lp_spec_realises.specs.Projects.{Project};
 ghost use Rattle.lp_spec_realises.specs.Operators.{Placement};
 ghost use Rattle.lp_spec_realises.specs.Tops.{GoesByPlace};
-ghost use Rattle.lp_spec_realises.specs.ProjectNetlists.{IsProjectNetlist, has_origins_apart};
+ghost use Rattle.lp_spec_realises.specs.ProjectNetlists.{IsProjectNetlist, netlist_of, has_origins_apart};
 ghost use Rattle.lp_spec_realises.specs.Surroundings.{OriginsAreSupplies, OriginsComeIn, event_at_pins, powered_of};
 
 /// In an event at the pins each port origin has its state at its port, where the ports of the origins are apart.
@@ -23,4 +24,9 @@ pub fn origins_are_supplies()
 /// Of a port that two tops have with one width, a bit is found again on the way back from the other top.
 pub fn bits_go_by_place()
     ensures { (s w : Structure) (n : Name) → GoesByPlace s w n }
+{}
+
+/// In a netlist of a project whatever has a source is one of the nodes, and no way back is longer than there are nodes.
+pub fn netlists_have_fuel()
+    ensures { (p : Project) (m : List ModuleView) → IsProjectNetlist p m → HasItsNodes (netlist_of p m) × HasFuel (netlist_of p m) }
 {}

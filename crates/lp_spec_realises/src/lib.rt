@@ -4,4 +4,6 @@
 
 mod laws;
 
-pub use laws::{bits_go_by_place, origins_are_supplies, origins_come_in_at_their_ports};
+pub use laws::{
+    bits_go_by_place, netlists_have_fuel, origins_are_supplies, origins_come_in_at_their_ports,
+};
