@@ -4,21 +4,30 @@ use lp_text::{Bytes, Names};
 use lp_verilog::read_netlist;
 use lp_vwrite::write_netlist;
 use std::alloc::Global;
+use std::process::Abort;
 use std::test::Fail;
 
 /// What is written of what was read, or the line of the fault.
-fn answer(alloc: Global, names: &Names, read: &Result<Netlist, Refusal>) -> Result<Bytes, Fail> {
+fn answer(
+    rt: &impl Abort,
+    alloc: Global,
+    names: &Names,
+    read: &Result<Netlist, Refusal>,
+) -> Result<Bytes, Fail> {
     match read {
         Ok(netlist) => Ok(write_netlist(alloc, names, netlist)?),
         Err(Refusal::NoMemory) => Ok(Bytes::copy(alloc, b"no memory")?),
-        Err(Refusal::Fault(fault)) => Ok(write_line(alloc, names, fault)?),
+        Err(Refusal::Fault(fault)) => {
+            assert!(rt; fault.is_plain());
+            Ok(write_line(alloc, names, fault)?)
+        }
     }
 }
 
-fn rewritten(alloc: Global, text: &str) -> Result<Bytes, Fail> {
+fn rewritten(rt: &impl Abort, alloc: Global, text: &str) -> Result<Bytes, Fail> {
     let mut names = Names::new(alloc)?;
     let read = read_netlist(alloc, &mut names, text.as_bytes());
-    let out = answer(alloc, &names, &read);
+    let out = answer(rt, alloc, &names, &read);
     drop(read);
     drop(names);
     out
@@ -61,7 +70,7 @@ const REFUSED: &[(&str, &str)] = &[
 #[test]
 fn texts_are_refused_at_their_first_fault(rt: HostRuntime) -> Result<(), Fail> {
     for (text, want) in REFUSED {
-        let got = rewritten(rt.alloc(), text)?;
+        let got = rewritten(&rt, rt.alloc(), text)?;
         let line = format!(in rt.alloc(); "lpinsert: {want}")?;
         assert_eq!(rt; got.all(), line.as_bytes(), "{text}");
     }
@@ -104,9 +113,9 @@ const WRITTEN: &[(&str, &str)] = &[
 #[test]
 fn texts_are_laid_out(rt: HostRuntime) -> Result<(), Fail> {
     for (text, want) in WRITTEN {
-        let first = rewritten(rt.alloc(), text)?;
+        let first = rewritten(&rt, rt.alloc(), text)?;
         assert_eq!(rt; first.all(), want.as_bytes(), "{text}");
-        let second = rewritten(rt.alloc(), want)?;
+        let second = rewritten(&rt, rt.alloc(), want)?;
         assert_eq!(rt; second.all(), want.as_bytes(), "{text} once more");
     }
     Ok(())

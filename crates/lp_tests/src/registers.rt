@@ -124,21 +124,28 @@ fn registers_keep_their_rows(rt: HostRuntime) -> Result<(), Fail> {
     Ok(())
 }
 
-/// What a control pin does for the values 0, 1 and X before and now: nine values, by the value before.
-const ACTIONS: &[(Action, &[u8; 9])] = &[
-    (Action::High, b"01X01X01X"),
-    (Action::Low, b"10X10X10X"),
-    (Action::Rise, b"01X0000XX"),
-    (Action::Fall, b"00010XX0X"),
+/// An action, the value of its control pin before, and what it does where the value is now 0, 1 or X.
+const ACTIONS: &[(Action, u8, &[u8; 3])] = &[
+    (Action::High, b'0', b"01X"),
+    (Action::High, b'1', b"01X"),
+    (Action::High, b'X', b"01X"),
+    (Action::Low, b'0', b"10X"),
+    (Action::Low, b'1', b"10X"),
+    (Action::Low, b'X', b"10X"),
+    (Action::Rise, b'0', b"01X"),
+    (Action::Rise, b'1', b"000"),
+    (Action::Rise, b'X', b"0XX"),
+    (Action::Fall, b'0', b"000"),
+    (Action::Fall, b'1', b"10X"),
+    (Action::Fall, b'X', b"X0X"),
 ];
 
 #[test]
 fn controls_act(rt: HostRuntime) {
-    for (action, row) in ACTIONS {
-        for (place, want) in row.iter().enumerate() {
-            let last = value_of_byte(b"000111XXX"[place]);
-            let now = value_of_byte(b"01X01X01X"[place]);
-            assert_eq!(rt; byte_of_value(fires(*action, last, now)), *want);
+    for (action, last, row) in ACTIONS {
+        for (want, now) in row.iter().zip(b"01X") {
+            let fired = fires(*action, value_of_byte(*last), value_of_byte(*now));
+            assert_eq!(rt; byte_of_value(fired), *want);
         }
     }
 }

@@ -4,19 +4,28 @@ use std::alloc::Global;
 use std::test::Fail;
 use std::{env, fs, process};
 
-/// What came of a call.
-fn came(answer: &Result<(), ShelfFault>) -> &'static str {
+fn word_of(fault: ShelfFault) -> &'static str {
+    match fault {
+        ShelfFault::Failed => "failed",
+        ShelfFault::TooLong => "too long",
+        ShelfFault::NoMemory => "no memory",
+    }
+}
+
+/// What came of writing a file.
+fn came(answer: Result<(), ShelfFault>) -> &'static str {
     match answer {
         Ok(()) => "done",
-        Err(ShelfFault::Failed) => "failed",
-        Err(ShelfFault::TooLong) => "too long",
-        Err(ShelfFault::NoMemory) => "no memory",
+        Err(fault) => word_of(fault),
     }
 }
 
 /// What comes of reading a file.
 fn reading<S: Shelf>(alloc: Global, shelf: &mut S, name: &str) -> &'static str {
-    came(&shelf.read(alloc, name).map(|_| ()))
+    match shelf.read(alloc, name) {
+        Ok(_) => "done",
+        Err(fault) => word_of(fault),
+    }
 }
 
 #[test]
@@ -28,7 +37,7 @@ fn fails_by_number(rt: HostRuntime) -> Result<(), Fail> {
     assert_eq!(rt; reading(alloc, &mut shelf, "a"), "done");
     assert_eq!(rt; reading(alloc, &mut shelf, "a"), "failed");
     assert_eq!(rt; reading(alloc, &mut shelf, "c"), "failed", "no such file");
-    assert_eq!(rt; came(&shelf.write("a", b"two")), "failed");
+    assert_eq!(rt; came(shelf.write("a", b"two")), "failed");
     let kept = shelf.contents("a").ok_or("a is gone")?;
     assert_eq!(rt; kept, b"one".as_slice());
     shelf.say(b" more")?;
@@ -58,14 +67,15 @@ fn keeps_files(rt: HostRuntime) -> Result<(), Fail> {
     let process = process::id(rt.process());
     let name = format!(in alloc; "{}/lp_tests_{process}", dir.display())?;
     let mut shelf = FileShelf::new(&rt, &rt);
-    assert_eq!(rt; reading(alloc, &mut shelf, &name), "failed");
+    assert!(rt; shelf.read(alloc, &name).is_err(), "no such file");
     shelf.write(&name, b"longer than what follows")?;
     shelf.write(&name, b"whole")?;
     assert_eq!(rt; shelf.read(alloc, &name)?.as_slice(), b"whole".as_slice());
     shelf.say(b"")?;
     fs::remove_file(&rt, &name)?;
-    assert_eq!(rt; came(&shelf.write("/dev/full", b"x")), "failed");
-    assert_eq!(rt; reading(alloc, &mut shelf, "/dev/zero"), "too long");
-    assert_eq!(rt; reading(alloc, &mut shelf, "/"), "failed", "a folder");
+    assert!(rt; shelf.write("/dev/full", b"x").is_err(), "no room");
+    let endless = shelf.read(alloc, "/dev/zero");
+    assert!(rt; matches!(&endless, Err(ShelfFault::TooLong)), "no end");
+    assert!(rt; shelf.read(alloc, "/").is_err(), "a folder");
     Ok(())
 }
