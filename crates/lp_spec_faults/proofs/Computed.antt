@@ -189,13 +189,12 @@ no_clamp_cell : map (λ cs. option_and_then (λ x. Some tt) (first_of (no_cell (
 unfolding computing
 no_clamp_cell = refl
 
--- ---- loops: the control of a switch comes from the block that the switch supplies
+-- ---- loops: the control of a switch comes from the block that the switch supplies; it is the net sl of the top, number 4
 
 abbrev switched : Project
 switched = record (project (with_strategies [])) {
   structure = switched_from_inside;
-  supplies = record (supplies [] []) { origins = origin 0 (Port (On 1000000 ∷ [])) ∷ origin 0 (Switch (record { 0 = 0 }) (record { 0 = 5 }) false) ∷ origin 2 (Port []) ∷ origin 3 (Port []) ∷ [] };
-  node = λ k. Inner (codes "sl") None [];
+  supplies = record (supplies [] []) { origins = origin 0 (Port (On 1000000 ∷ [])) ∷ origin 0 (Switch (record { 0 = 0 }) (record { 0 = 4 }) false) ∷ origin 2 (Port []) ∷ origin 3 (Port []) ∷ [] };
 }
 
 the_control_loops : first_of (loop switched 3) ≡ Some (Inner (codes "sl") None [])

@@ -1,5 +1,5 @@
 -- Supply ports and nets that are joined (IEEE 1801-2015 connect_supply_net).
-use Rattle.std.specs.Prelude.{◌≡◌, ℕ, zero, suc, Bool, false, ◌&&◌, ◌||◌, if◌then◌else◌, List, [], ◌∷◌, ◌++◌, map, IsTrue, flat_map}
+use Rattle.std.specs.Prelude.{◌≡◌, ℕ, zero, suc, Bool, true, false, ◌&&◌, ◌||◌, if◌then◌else◌, List, [], ◌∷◌, ◌++◌, map, IsTrue, flat_map}
 use Rattle.std.specs.List.{list_any, list_all}
 use Rattle.lp_spec_origins.specs.Commands.{same_scoped, Supply, PortAt, NetAt, same_supply, Command, Connects}
 
@@ -50,3 +50,7 @@ group_of commands (suc fuel) a = widened commands (group_of commands fuel a)
 -- nothing leads out of it
 abbrev pub is_closed : List Command → List Supply → Bool
 is_closed commands group = list_all (λ a. list_all (λ b. is_among b group) (neighbours commands a)) group
+
+-- nothing leads out of what is found from one
+abbrev pub IsWhole : List Command → ℕ → Supply → Type 0
+IsWhole commands fuel a = is_closed commands (group_of commands fuel a) ≡ true
