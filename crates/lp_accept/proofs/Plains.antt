@@ -11,7 +11,7 @@ use Rattle.lp_model.specs.declared.library.Cell.{Cell}
 use Rattle.lp_model.specs.declared.netlist.Instance.{Instance}
 use Rattle.lp_model.specs.NetlistView.{connections_numbers, instance_numbers}
 use Rattle.lp_model.specs.LibraryView.{cell_view}
-use Rattle.lp_spec_plain.specs.Cells.{is_plain_cell}
+use Rattle.lp_spec_plain.specs.Cells.{loses_with_supply}
 use Rattle.lp_plain_index.proofs.Numbers.{below-left, below-right, below-head, below-tail}
 use Rattle.lp_spec_plain_netlist.specs.Fits.{cell_named, is_plain_target}
 
@@ -24,13 +24,13 @@ module _ (texts : List (List ℕ)) where
   behind f fs None = refl
   behind f fs (Some k) = refl
 
-  pub plain-at : (t : List ℕ) (cells : List Cell) → is_plain_target (cell_named (map (cell_view texts) cells) t) ≡ flag_at (map (λ c. is_plain_cell (cell_view texts c)) cells) (place_of t (map (λ c. text_at texts c.name.0) cells))
+  pub plain-at : (t : List ℕ) (cells : List Cell) → is_plain_target (cell_named (map (cell_view texts) cells) t) ≡ flag_at (map (λ c. loses_with_supply (cell_view texts c)) cells) (place_of t (map (λ c. text_at texts c.name.0) cells))
   plain-at t [] = refl
   plain-at t (c ∷ cells) = by (same_text t (text_at texts c.name.0)) refl (plain-at t cells)
     where
-      by : (b : Bool) → same_text t (text_at texts c.name.0) ≡ b → is_plain_target (cell_named (map (cell_view texts) cells) t) ≡ flag_at (map (λ x. is_plain_cell (cell_view texts x)) cells) (place_of t (map (λ x. text_at texts x.name.0) cells)) → is_plain_target (cell_named (map (cell_view texts) (c ∷ cells)) t) ≡ flag_at (map (λ x. is_plain_cell (cell_view texts x)) (c ∷ cells)) (place_of t (map (λ x. text_at texts x.name.0) (c ∷ cells)))
+      by : (b : Bool) → same_text t (text_at texts c.name.0) ≡ b → is_plain_target (cell_named (map (cell_view texts) cells) t) ≡ flag_at (map (λ x. loses_with_supply (cell_view texts x)) cells) (place_of t (map (λ x. text_at texts x.name.0) cells)) → is_plain_target (cell_named (map (cell_view texts) (c ∷ cells)) t) ≡ flag_at (map (λ x. loses_with_supply (cell_view texts x)) (c ∷ cells)) (place_of t (map (λ x. text_at texts x.name.0) (c ∷ cells)))
       by true e rest = rw (same_text_comm (text_at texts c.name.0) t ∙ e, e) refl
-      by false e rest = rw (same_text_comm (text_at texts c.name.0) t ∙ e, e) (rest ∙ sym (behind (is_plain_cell (cell_view texts c)) (map (λ x. is_plain_cell (cell_view texts x)) cells) (place_of t (map (λ x. text_at texts x.name.0) cells))))
+      by false e rest = rw (same_text_comm (text_at texts c.name.0) t ∙ e, e) (rest ∙ sym (behind (loses_with_supply (cell_view texts c)) (map (λ x. loses_with_supply (cell_view texts x)) cells) (place_of t (map (λ x. text_at texts x.name.0) cells))))
 
 pub place-in : (t : List ℕ) (ts : List (List ℕ)) (k : ℕ) → place_of t ts ≡ Some k → k < length ts
 place-in t [] k e = absurd (let none : ⊥ = cc in none)

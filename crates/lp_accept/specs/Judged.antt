@@ -1,10 +1,12 @@
 -- The judging stages: a module and its intent against the cells.
-use Rattle.std.specs.Prelude.{◌≡◌, ℕ, ◌≤◌, ◌⊎◌, true, false, List, [], ◌∷◌, map, length, Some, None}
+use Rattle.std.specs.Prelude.{◌≡◌, ℕ, Bool, ◌≤◌, ◌⊎◌, true, false, List, [], ◌∷◌, map, length, Some, None}
 use Rattle.std.specs.List.{list_all}
 use Rattle.lp_model.specs.Agreement.{numbers_below}
+use Rattle.lp_model.specs.declared.library.Cell.{Cell}
 use Rattle.lp_model.specs.NetlistView.{InstanceView, ModuleView, module_view, module_numbers}
 use Rattle.lp_model.specs.LibraryView.{CellView, cell_view, library_view, library_numbers}
 use Rattle.lp_spec_design.specs.Keys.{Name}
+use Rattle.lp_spec_plain.specs.Cells.{loses_with_supply}
 use Rattle.lp_spec_plain_module.specs.Designs.{Flat}
 use Rattle.lp_verilog_tokens.specs.Lexical.{is_visible}
 use Rattle.lp_plain_upf.specs.declared.plain.Intent.{Intent}
@@ -15,6 +17,10 @@ use Rattle.lp_spec_plain_netlist.specs.Flats.{flat_of, HasLoop, IsOrdered}
 use Rattle.lp_spec_insertion.specs.Inputs.{Inputs, Accepts}
 use Rattle.lp_spec_insertion.specs.Faults.{not_yet, unknown_module}
 use Rattle.lp_accept.specs.declared.accepted.Accepted.{Accepted}
+
+-- which cells lose their outputs and their state exactly where their one supply is not on
+abbrev pub losing : List (List ℕ) → List Cell → List Bool
+losing texts cells = map (λ c. loses_with_supply (cell_view texts c)) cells
 
 -- the one module of a netlist
 pub record IsOne (modules : List ModuleView) (m : ModuleView) : Type 0 where

@@ -4,22 +4,22 @@ ghost use Rattle.lp_text.specs.Texts.{text_at};
 ghost use Rattle.lp_model.specs.Agreement.{numbers_below};
 ghost use Rattle.lp_model.specs.LibraryView.{cell_view};
 ghost use Rattle.lp_model.specs.NetlistView.{instance_numbers, module_view, module_numbers};
-ghost use Rattle.lp_spec_plain.specs.Cells.{is_plain_cell};
+ghost use Rattle.lp_accept.specs.Judged.{losing};
 ghost use Rattle.lp_spec_plain_netlist.specs.Fits.{cell_named, is_plain_target, are_plain};
 
 use lp_model::{Cell, Instance, Module};
-use lp_plain_cells::is_plain;
+use lp_plain_cells::loses_with_supply;
 use lp_plain_index::CellIndex;
 use lp_text::{NameId, Names, NoMemory};
 use std::alloc::Global;
 
 /// Which cells are lost exactly where their one supply is not on.
 fn plain_cells(alloc: Global, names: &Names, cells: &[Cell]) -> Result<Vec<bool>, NoMemory>
-    ensures { IfOk result (λ v. v.items ≡ map (λ c. is_plain_cell (cell_view names.now c)) cells.now) }
+    ensures { IfOk result (λ v. v.items ≡ losing names.now cells.now) }
 {
     let mut plain = Vec::new(alloc);
     for cell in cells {
-        plain.push(is_plain(names, cell))?;
+        plain.push(loses_with_supply(names, cell))?;
     }
     Ok(plain)
 }
@@ -28,7 +28,7 @@ fn plain_cells(alloc: Global, names: &Names, cells: &[Cell]) -> Result<Vec<bool>
 fn is_plain_at(index: &CellIndex<'_>, names: &Names, plain: &[bool], target: NameId) -> bool
     requires cells { numbers_below (length names.now) (map (λ c. c.name.0) index.now) ≡ true }
     requires below { target.0 < length names.now }
-    requires plain { plain.now ≡ map (λ c. is_plain_cell (cell_view names.now c)) index.now }
+    requires plain { plain.now ≡ losing names.now index.now }
     ensures { result ≡ is_plain_target (cell_named (map (cell_view names.now) index.now) (text_at names.now target.0)) }
 {
     match index.place(names, target) {
@@ -41,7 +41,7 @@ fn is_plain_at(index: &CellIndex<'_>, names: &Names, plain: &[bool], target: Nam
 fn all_plain(index: &CellIndex<'_>, names: &Names, plain: &[bool], instances: &[Instance]) -> bool
     requires cells { numbers_below (length names.now) (map (λ c. c.name.0) index.now) ≡ true }
     requires below { numbers_below (length names.now) (flat_map instance_numbers instances.now) ≡ true }
-    requires plain { plain.now ≡ map (λ c. is_plain_cell (cell_view names.now c)) index.now }
+    requires plain { plain.now ≡ losing names.now index.now }
     ensures { result ≡ list_all (λ x. is_plain_target (cell_named (map (cell_view names.now) index.now) (text_at names.now x.target.0))) instances.now }
 {
     for instance in instances {

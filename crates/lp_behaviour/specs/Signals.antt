@@ -1,9 +1,11 @@
 -- What the names in the functions of a cell stand for (Liberty function, ff, latch and power_down_function).
-use Rattle.std.specs.Prelude.{ℕ, Bool, not, ◌==◌, if◌then◌else◌, List, Option, Some, None, slice_index_or}
+use Rattle.std.specs.Prelude.{ℕ, Bool, true, false, not, ◌&&◌, ◌==◌, if◌then◌else◌, List, Option, Some, None, slice_index_or}
 use Rattle.std.specs.List.{position}
 use Rattle.lp_text.specs.declared.names.NameId.{NameId}
 use Rattle.lp_tern.specs.declared.tern.Tern.{Tern}
 use Rattle.lp_tern.specs.declared.tern.Tern.TheVariants.{Zero, One, X}
+use Rattle.lp_model.specs.declared.netlist.Direction.{Direction}
+use Rattle.lp_model.specs.declared.netlist.Direction.TheVariants.{Input, Output}
 use Rattle.lp_model.specs.declared.library.Cell.{Cell}
 use Rattle.lp_model.specs.declared.library.PgPin.{PgPin}
 use Rattle.lp_model.specs.declared.library.Pin.{Pin}
@@ -12,6 +14,14 @@ use Rattle.lp_model.specs.declared.library.StateGroup.{StateGroup}
 -- the place of the pin with a name
 abbrev pub pin_place : List Pin → NameId → Option ℕ
 pin_place pins name = position (λ p. p.name.0 == name.0) pins
+
+abbrev pub is_input : Direction → Bool
+is_input Input = true
+is_input Output = false
+
+-- the place of the input pin with a name; the name of an output pin is no variable of a function
+abbrev pub input_place : List Pin → NameId → Option ℕ
+input_place pins name = position (λ p. is_input p.direction && (p.name.0 == name.0)) pins
 
 -- the place of the power or ground pin with a name
 abbrev pub pg_place : List PgPin → NameId → Option ℕ

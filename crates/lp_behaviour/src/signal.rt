@@ -1,7 +1,7 @@
 ghost use Rattle.std.specs.Prelude.{◌≡◌, ◌<◌, IfSome};
-ghost use Rattle.lp_behaviour.specs.Signals.{known, pg_place, pin_place, state_value};
+ghost use Rattle.lp_behaviour.specs.Signals.{input_place, is_input, known, pg_place, pin_place, state_value};
 
-use lp_model::{PgPin, Pin, StateGroup};
+use lp_model::{Direction, PgPin, Pin, StateGroup};
 use lp_tern::Tern;
 use lp_text::NameId;
 
@@ -10,6 +10,21 @@ pub(crate) fn place_of_pin(pins: &[Pin], name: NameId) -> Option<usize>
     ensures { result ≡ pin_place pins.now name }
 {
     pins.iter().position(|pin| pin.name.0 == name.0)
+}
+
+/// Whether a pin of a direction is an input.
+fn is_input(direction: Direction) -> bool
+    ensures { result ≡ is_input direction }
+{
+    matches!(direction, Direction::Input)
+}
+
+/// The place of the input pin with a name.
+pub(crate) fn place_of_input(pins: &[Pin], name: NameId) -> Option<usize>
+    ensures { result ≡ input_place pins.now name }
+{
+    pins.iter()
+        .position(|pin| is_input(pin.direction) && pin.name.0 == name.0)
 }
 
 /// The place of the power or ground pin with a name.

@@ -2,14 +2,14 @@ ghost use Rattle.std.specs.Prelude.{◌≡◌, ◌↔◌, ◌≤◌, ◌&&◌, I
 ghost use Rattle.std.specs.List.{list_all};
 ghost use Rattle.lp_behaviour.specs.Usable as usable;
 
-use crate::signal::{place_of_pg, place_of_pin};
+use crate::signal::{place_of_input, place_of_pg};
 use lp_expr::Expr;
-use lp_model::{Cell, PgPin, Pin, StateGroup};
+use lp_model::{Action, Cell, PgPin, Pin, PinUse, RetClass, StateGroup};
 use lp_text::NameId;
 
 /// Whether a cell keeps what every cell that may be used does: at most 8 power and ground pins, at most
-/// 240 signal pins, functions whose variables all stand for a pin or the state, and related pins that it
-/// has.
+/// 240 signal pins, functions whose variables all stand for an input pin or the state, related pins that it
+/// has, and retention pins with the actions of their class alone.
 pub fn is_usable(cell: &Cell) -> bool
     ensures { IsTrue result ↔ usable.IsUsable cell.now }
 {
@@ -54,7 +54,7 @@ fn is_usable_pg(cell: &Cell, pg: &PgPin) -> bool
     }
 }
 
-/// Whether a signal pin has functions and related pins.
+/// Whether a signal pin has functions and related pins, and acts by its class.
 fn is_usable_pin(cell: &Cell, pin: &Pin) -> bool
     ensures { result ≡ usable.is_usable_pin cell.now pin.now }
 {
@@ -62,6 +62,28 @@ fn is_usable_pin(cell: &Cell, pin: &Pin) -> bool
         && is_function_of_pgs(cell, &pin.power_down)
         && usize::from(pin.power) < cell.pgs.len()
         && is_related(cell, pin.gnd)
+        && acts_by_class(pin.use_of)
+}
+
+/// Whether a save and a restore action are those of a class.
+fn acts(class: RetClass, save: Option<Action>, restore: Option<Action>) -> bool
+    ensures { result ≡ usable.acts class save restore }
+{
+    match class {
+        RetClass::Save => save.is_some() && restore.is_none(),
+        RetClass::Restore => save.is_none() && restore.is_some(),
+        RetClass::Both => save.is_some() && restore.is_some(),
+    }
+}
+
+/// Whether a pin has the actions of its class, where it is a retention pin.
+fn acts_by_class(use_of: PinUse) -> bool
+    ensures { result ≡ usable.acts_by_class use_of }
+{
+    match use_of {
+        PinUse::Retain(class, save, restore) => acts(class, save, restore),
+        _ => true,
+    }
 }
 
 /// Whether a related ground pin, if there is one, is a pin of the cell.
@@ -110,7 +132,7 @@ fn is_function_of_pgs(cell: &Cell, e: &Option<Expr>) -> bool
     }
 }
 
-/// Whether the variables of a function are pins or the state.
+/// Whether the variables of a function are input pins or the state.
 fn is_signal_function(cell: &Cell, e: &Expr) -> bool
     ensures { result ≡ usable.is_function (usable.is_signal cell.now) e.now }
 {
@@ -124,7 +146,7 @@ fn is_pg_function(cell: &Cell, e: &Expr) -> bool
     are_pgs(cell, e.variables())
 }
 
-/// Whether each name is that of a pin, of the state or of its inverse.
+/// Whether each name is that of an input pin, of the state or of its inverse.
 fn are_signals(cell: &Cell, names: &[NameId]) -> bool
     ensures { result ≡ list_all (usable.is_signal cell.now) names.now }
 {
@@ -138,11 +160,11 @@ fn are_pgs(cell: &Cell, names: &[NameId]) -> bool
     names.iter().all(|name| is_pg(cell, *name))
 }
 
-/// Whether a name is that of a pin, of the state or of its inverse.
+/// Whether a name is that of an input pin, of the state or of its inverse.
 fn is_signal(cell: &Cell, name: NameId) -> bool
     ensures { result ≡ usable.is_signal cell.now name }
 {
-    place_of_pin(cell.pins.as_slice(), name).is_some() || is_state_name(&cell.state, name)
+    place_of_input(cell.pins.as_slice(), name).is_some() || is_state_name(&cell.state, name)
 }
 
 /// Whether a name is that of the state or of its inverse.

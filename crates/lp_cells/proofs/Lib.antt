@@ -1,4 +1,5 @@
 pub mod Below
+mod Computed
 pub mod Naming
 pub mod Second
 pub mod Sounding

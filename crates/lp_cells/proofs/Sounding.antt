@@ -14,17 +14,22 @@ use Rattle.lp_model.specs.declared.library.PgKind.{PgKind}
 use Rattle.lp_model.specs.declared.library.PgKind.TheVariants as pg
 use Rattle.lp_model.specs.GroupsView.{GroupView}
 use Rattle.lp_model.specs.LibraryView.{PgPinView, PinView}
-use Rattle.lp_attributes.specs.Attributes.{value_of}
+use Rattle.lp_model.specs.declared.library.RetClass.{RetClass}
+use Rattle.lp_model.specs.declared.library.RetClass.TheVariants as classes
+use Rattle.lp_model.specs.declared.library.PinUse.{PinUse}
+use Rattle.lp_model.specs.declared.library.PinUse.TheVariants as uses
+use Rattle.lp_behaviour.specs.Usable.{acts_by_class}
+use Rattle.lp_attributes.specs.Attributes.{says, value_of, values_of}
 use Rattle.lp_attributes.specs.Expressions.{are_known, expression_over}
 use Rattle.lp_parts.specs.Source.{is_part, arg_at, inside, is_cell}
-use Rattle.lp_parts.specs.Names.{is_state, is_output, pin_names, with_inputs, with_pg}
+use Rattle.lp_parts.specs.Names.{is_state, is_output, with_inputs, with_pg}
 use Rattle.lp_parts.specs.Functions.{is_power, is_ground, kinds_of, passed, place_if_any, alone, small}
-use Rattle.lp_parts.specs.Pins.{Scope, kind_of, is_internal_power, switched_by, switched_of, pg_of, pgs_at, pgs_of, is_primary_power, is_primary_ground, places_from, the_one, only_place, only, related_by, direction_of, function_if_any, function_of, power_down_of, pin_of, pins_at, pins_of}
+use Rattle.lp_parts.specs.Pins.{Scope, kind_of, is_internal_power, switched_by, switched_of, pg_of, pgs_at, pgs_of, is_primary_power, is_primary_ground, places_from, the_one, only_place, only, related_by, direction_of, function_if_any, function_of, power_down_of, pin_of, pins_at, pins_of, action_of, class_of, retains, retention_use, shift_use, use_of}
 use Rattle.lp_parts.specs.Roles.{copy_if_any, copy_of, is_retention, is_switch}
 use Rattle.lp_parts.specs.States.{clock_text, down_text, is_pin, next_text, state_by, state_of}
-use Rattle.lp_cells.specs.Reasons.{all_names, is_free, is_visible, has_bad_name, repeated, has_name_twice, has_bad_pg, lacks_pgs, has_no_kind, has_no_direction, names_power, names_ground, is_power_at, is_ground_at, is_powered, is_grounded, is_related, has_bad_related, reads_if_any, reads_down, reads_pin, reads_pg, reads_state, reads_switched, reads_all, has_bad_range, has_two, lacks_copy, has_bad_retention, has_construct, late_reason, middle_reason, reason_of}
+use Rattle.lp_cells.specs.Reasons.{all_names, is_free, is_visible, has_bad_name, repeated, has_name_twice, has_bad_pg, lacks_pgs, has_no_kind, has_no_direction, names_power, names_ground, is_power_at, is_ground_at, is_powered, is_grounded, is_related, has_bad_related, reads_if_any, reads_down, reads_pin, reads_pg, reads_state, reads_switched, reads_all, has_bad_range, has_two, lacks_copy, is_action, has_actions, retains_well, has_bad_retention, has_construct, late_reason, middle_reason, reason_of}
 use Rattle.lp_cells.specs.Cells.{scope_of, cell_by, cell_of, cell_at, cells_from, cells_in, cells_of}
-use Rattle.lp_cells.specs.Sound.{state_names, is_over_if_any, has_function, is_grounded_at, has_functions, has_related, is_sound_switched, is_sound_state, passes, is_sound_cell}
+use Rattle.lp_cells.specs.Sound.{state_names, input_names, is_over_if_any, has_function, is_grounded_at, has_functions, has_related, is_sound_switched, is_sound_state, passes, is_sound_cell}
 use Rattle.lp_cells.proofs.Standing.{known_self, known_front, known_back, pgs_in, inputs_in, variables_in, over_in, function_in, down_in}
 
 -- ---- no reason holds
@@ -52,6 +57,7 @@ record Clear (place : ℕ) (sc : Scope) (head : GroupView) (groups : List GroupV
   related : list_any (has_bad_related place sc) groups ≡ false
   read : list_all (reads_all place sc) groups ≡ true
   one_state : length (filter (is_state place) groups) ≤ 1
+  retained : list_any (has_bad_retention place) groups ≡ false
   few_pins : length (map (λ (p : PinView). p.name) pins) ≤ 240
 
 is_none-of : {A : Type 0} (o : Option A) → is_some o ≡ false → o ≡ None
@@ -77,6 +83,7 @@ clear place sc head groups pins e =
       related = two.1.1.0;
       read = not-false (list_all (reads_all place sc) groups) late.0;
       one_state = ltb-false 1 (length (filter (is_state place) groups)) late.1.1.0;
+      retained = (or_parts (lacks_copy place head groups) (list_any (has_bad_retention place) groups) late.1.1.1.0).1;
       few_pins = ltb-false 240 (length names) taken.0;
     }
 
@@ -210,6 +217,42 @@ grounded_by kinds names true sole value few is h = refl
 grounded_by kinds names false sole None few is h = kept_ground kinds sole few (is h)
 grounded_by kinds names false sole (Some name) few is h = kept_ground kinds (place_of name names) few h
 
+-- ---- retention pins
+
+is_known_by : (a b : Bool) → (a || (false && b)) ≡ true → a ≡ true
+is_known_by true b e = refl
+is_known_by false b e = absurd (true≢false (sym e))
+
+acts_as : (g : GroupView) (o : Option RetClass) → has_actions g o ≡ true → acts_by_class (retains g o) ≡ true
+acts_as g None e = refl
+acts_as g (Some classes.Save) e =
+    let both = and_parts (is_action true (codes "save_action") g) (is_action false (codes "restore_action") g) e in
+    and_from _ _ (is_known_by (is_some (action_of (codes "save_action") g)) true both.0) refl
+acts_as g (Some classes.Restore) e =
+    let both = and_parts (is_action false (codes "save_action") g) (is_action true (codes "restore_action") g) e in
+    and_from _ _ refl (is_known_by (is_some (action_of (codes "restore_action") g)) true both.1)
+acts_as g (Some classes.Both) e =
+    let both = and_parts (is_action true (codes "save_action") g) (is_action true (codes "restore_action") g) e in
+    and_from _ _ (is_known_by (is_some (action_of (codes "save_action") g)) true both.0) (is_known_by (is_some (action_of (codes "restore_action") g)) true both.1)
+
+retained_as : (g : GroupView) (o : Option (List (List ℕ))) → retains_well g o ≡ true → acts_by_class (retention_use g o) ≡ true
+retained_as g None e = refl
+retained_as g (Some values) e = acts_as g (class_of values) e
+
+-- another use than that of a retention pin has no actions
+acts_if : (b : Bool) (a c : PinUse) → acts_by_class a ≡ true → acts_by_class c ≡ true → acts_by_class (if b then a else c) ≡ true
+acts_if true a c h k = h
+acts_if false a c h k = k
+
+use_acts : (g : GroupView) → retains_well g (values_of (codes "retention_pin") g) ≡ true → acts_by_class (use_of g) ≡ true
+use_acts g e =
+    acts_if (says (codes "isolation_cell_data_pin") (codes "true") g) uses.IsoData _ refl
+    (acts_if (says (codes "isolation_cell_enable_pin") (codes "true") g) uses.IsoEnable (shift_use g) refl
+    (acts_if (says (codes "level_shifter_data_pin") (codes "true") g) uses.ShiftData _ refl
+    (acts_if (says (codes "level_shifter_enable_pin") (codes "true") g) uses.ShiftEnable _ refl
+    (acts_if (says (codes "switch_pin") (codes "true") g) uses.Switch _ refl
+    (retained_as g (values_of (codes "retention_pin") g) e)))))
+
 -- ---- pins
 
 pin_is : (place : ℕ) (g : GroupView) → is_part place (codes "pin") g ≡ true → nat_lt 0 (length g.args) ≡ true → is_pin place g ≡ true
@@ -228,7 +271,7 @@ not_pin place g part =
 
 module _ (place : ℕ) (sc : Scope) (R P : List (List ℕ)) (few : length (kinds_of sc.pgs) ≤ 8) (power_is : is_some sc.power ≡ true → names_power (kinds_of sc.pgs) sc.power ≡ true) (gnd_is : is_some sc.gnd ≡ true → names_ground (kinds_of sc.pgs) sc.gnd ≡ true) (signals : are_known R sc.signals ≡ true) (names : are_known P sc.names ≡ true) (own : are_known P (map (λ (p : PgPinView). p.name) sc.pgs) ≡ true) where
   abbrev sound_by : PinView → Bool
-  sound_by p = has_related sc.floating (kinds_of sc.pgs) p && has_functions R P p
+  sound_by p = has_related sc.floating (kinds_of sc.pgs) p && (has_functions R P p && acts_by_class p.use_of)
 
   related_pin : (g : GroupView) (n : List ℕ) → is_related sc g ≡ true → has_related sc.floating (kinds_of sc.pgs) (pin_of sc g n) ≡ true
   related_pin g n h =
@@ -246,11 +289,13 @@ module _ (place : ℕ) (sc : Scope) (R P : List (List ℕ)) (few : length (kinds
       by true r = and_from _ _ (has_some (value_of (codes "function") g) r) (and_from _ _ (function_in R sc.signals signals (value_of (codes "function") g)) (down_in P sc.names names sc.pgs own (value_of (codes "power_down_function") g)))
       by false r = refl
 
-  pin_sound : (g : GroupView) (n : List ℕ) → is_pin place g ≡ true → has_bad_related place sc g ≡ false → reads_all place sc g ≡ true → sound_by (pin_of sc g n) ≡ true
-  pin_sound g n is bad read =
+  pin_sound : (g : GroupView) (n : List ℕ) → is_pin place g ≡ true → has_bad_related place sc g ≡ false → has_bad_retention place g ≡ false → reads_all place sc g ≡ true → sound_by (pin_of sc g n) ≡ true
+  pin_sound g n is bad unkept read =
+      let well = retains_well g (values_of (codes "retention_pin") g) in
       let good : not (is_related sc g) ≡ false = subst (λ (b : Bool). (b && not (is_related sc g)) ≡ false) is bad in
+      let kept : not well ≡ false = subst (λ (b : Bool). (b && not well) ≡ false) is unkept in
       let reads : reads_pin sc g ≡ true = by (is_pin place g) is read in
-      and_from _ _ (related_pin g n (not-false (is_related sc g) good)) (functions_pin g n reads)
+      and_from _ _ (related_pin g n (not-false (is_related sc g) good)) (and_from _ _ (functions_pin g n reads) (use_acts g (not-false well kept)))
     where
       by : (b : Bool) → b ≡ true → (if b then reads_pin sc g else if is_part place (codes "pg_pin") g then reads_pg sc g else if is_state place g then reads_state sc g else if is_part place (codes "retention_condition") g then reads_down sc g else true) ≡ true → reads_pin sc g ≡ true
       by true e h = h
@@ -260,21 +305,22 @@ module _ (place : ℕ) (sc : Scope) (R P : List (List ℕ)) (few : length (kinds
   args_sound g [] each = refl
   args_sound g (a ∷ args) each = and_from _ _ (each a) (args_sound g args each)
 
-  pins_at_sound : (g : GroupView) → has_bad_related place sc g ≡ false → reads_all place sc g ≡ true → list_all sound_by (pins_at place sc g) ≡ true
+  pins_at_sound : (g : GroupView) → has_bad_related place sc g ≡ false → has_bad_retention place g ≡ false → reads_all place sc g ≡ true → list_all sound_by (pins_at place sc g) ≡ true
   unfolding pins_at
-  pins_at_sound g bad read = by (is_part place (codes "pin") g) refl g.args (λ part some n. pin_sound g n (pin_is place g part some) bad read)
+  pins_at_sound g bad unkept read = by (is_part place (codes "pin") g) refl g.args (λ part some n. pin_sound g n (pin_is place g part some) bad unkept read)
     where
       by : (b : Bool) → is_part place (codes "pin") g ≡ b → (args : List (List ℕ)) → (is_part place (codes "pin") g ≡ true → nat_lt 0 (length args) ≡ true → (n : List ℕ) → sound_by (pin_of sc g n) ≡ true) → list_all sound_by (if b then map (pin_of sc g) args else []) ≡ true
       by false e args each = refl
       by true e [] each = refl
       by true e (a ∷ args) each = args_sound g (a ∷ args) (each e (lt-ltb 0 (length (a ∷ args)) (omega arith)))
 
-  pins_sound : (groups : List GroupView) → list_any (has_bad_related place sc) groups ≡ false → list_all (reads_all place sc) groups ≡ true → list_all sound_by (pins_of place sc groups) ≡ true
-  pins_sound [] bad read = refl
-  pins_sound (g ∷ groups) bad read =
+  pins_sound : (groups : List GroupView) → list_any (has_bad_related place sc) groups ≡ false → list_any (has_bad_retention place) groups ≡ false → list_all (reads_all place sc) groups ≡ true → list_all sound_by (pins_of place sc groups) ≡ true
+  pins_sound [] bad unkept read = refl
+  pins_sound (g ∷ groups) bad unkept read =
       let each = or_parts (has_bad_related place sc g) (list_any (has_bad_related place sc) groups) bad in
+      let kept = or_parts (has_bad_retention place g) (list_any (has_bad_retention place) groups) unkept in
       let all = and_parts (reads_all place sc g) (list_all (reads_all place sc) groups) read in
-      list_all-append sound_by (pins_at place sc g) (pins_of place sc groups) ∙ and_from _ _ (pins_at_sound g each.0 all.0) (pins_sound groups each.1 all.1)
+      list_all-append sound_by (pins_at place sc g) (pins_of place sc groups) ∙ and_from _ _ (pins_at_sound g each.0 kept.0 all.0) (pins_sound groups each.1 kept.1 all.1)
 
   -- ---- power and ground pins
 
@@ -367,7 +413,7 @@ module _ (place : ℕ) (head : GroupView) (groups : List GroupView) where
   pins = pins_of place sc groups
 
   abbrev R : List (List ℕ)
-  R = map (λ (p : PinView). p.name) pins ++ state_names (state_of place sc groups)
+  R = input_names pins ++ state_names (state_of place sc groups)
 
   abbrev P : List (List ℕ)
   P = map (λ (p : PgPinView). p.name) sc.pgs
@@ -376,8 +422,8 @@ module _ (place : ℕ) (head : GroupView) (groups : List GroupView) where
   cell_passes e =
       let c = clear place sc head groups pins e in
       let names : are_known P sc.names ≡ true = pgs_in P place sc.signals sc.names groups [] refl (known_self P) in
-      let inputs : are_known R (fold (with_inputs place) [] groups) ≡ true = inputs_in R place sc groups [] refl (known_front (map (λ (p : PinView). p.name) pins) (state_names (state_of place sc groups)) (map (λ (p : PinView). p.name) pins) (known_self (map (λ (p : PinView). p.name) pins))) in
-      let signals : are_known R sc.signals ≡ true = variables_in R place (pin_names place groups) groups (fold (with_inputs place) [] groups) inputs c.one_state (λ g found. known_back (map (λ (p : PinView). p.name) pins) (state_names (state_of place sc groups)) (take 2 g.args) (state_known place sc groups (find (is_state place) groups) g found)) in
+      let inputs : are_known R (fold (with_inputs place) [] groups) ≡ true = inputs_in R place sc groups [] refl (known_front (input_names pins) (state_names (state_of place sc groups)) (input_names pins) (known_self (input_names pins))) in
+      let signals : are_known R sc.signals ≡ true = variables_in R place groups (fold (with_inputs place) [] groups) inputs c.one_state (λ g found. known_back (input_names pins) (state_names (state_of place sc groups)) (take 2 g.args) (state_known place sc groups (find (is_state place) groups) g found)) in
       let pgs_few : length sc.pgs ≤ 8 = subst (λ (n : ℕ). n ≤ 8) (length-map sc.pgs (λ (p : PgPinView). p.kind)) c.few_pgs in
       let pins_few : length pins ≤ 240 = subst (λ (n : ℕ). n ≤ 240) (length-map pins (λ (p : PinView). p.name)) c.few_pins in
       let power = sole_power sc.pgs in
@@ -388,7 +434,7 @@ module _ (place : ℕ) (head : GroupView) (groups : List GroupView) where
       (and_from _ _ (le-leb (length sc.pgs) 8 pgs_few)
       (and_from _ _ (le-leb (length pins) 240 pins_few)
       (and_from _ _ (pgs_sound place sc R P c.few_pgs power gnd signals names own (length sc.pgs) enough groups c.read)
-      (and_from _ _ (pins_sound place sc R P c.few_pgs power gnd signals names own groups c.related c.read)
+      (and_from _ _ (pins_sound place sc R P c.few_pgs power gnd signals names own groups c.related c.retained c.read)
       (and_from _ _ (state_sound place sc R P c.few_pgs power gnd signals names own groups (find (is_state place) groups))
       (copy_sound place sc R P c.few_pgs power gnd signals names own (is_retention head) (copy_of place groups)))))))
 

@@ -2,20 +2,22 @@
 use Rattle.std.proofs.Common.{◌≡◌, ℕ, zero, suc, ◌≤◌, Bool, true, false, List, [], ◌∷◌, ◌++◌, length, take, Option, Some, None, refl, sym, ap, ◌∙◌, subst, arith, not, ◌&&◌, ◌||◌}
 use Rattle.std.specs.Prelude.{map, fold, cond, codes, if◌then◌else◌, unwrap_or}
 use Rattle.std.specs.List.{filter, find, flat_map}
-use Rattle.std.proofs.lemmas.Bool.{and_parts, and_from}
+use Rattle.std.proofs.lemmas.Bool.{and_parts, and_from, true≢false}
 use Rattle.std.proofs.lemmas.List.{map-append}
+use Rattle.std.proofs.lemmas.List.Elements.{filter-append}
 use Rattle.std.proofs.lemmas.List.Folds.{list_all-append}
 use Rattle.lp_text.specs.Texts.{has_text, has_text-append, same_text, true-same_text, with_text}
 use Rattle.lp_model.specs.GroupsView.{GroupView}
 use Rattle.lp_model.specs.LibraryView.{ExprView, PgPinView, PinView}
+use Rattle.lp_behaviour.specs.Signals.{is_input}
 use Rattle.lp_attributes.specs.Expressions.{are_known, expression_of, expression_over, standing}
 use Rattle.lp_attributes.proofs.Finding.{is_known}
 use Rattle.lp_parts.specs.Source.{is_part, arg_at}
-use Rattle.lp_parts.specs.Names.{is_state, is_output, with_texts, with_inputs, with_variable, with_variables, with_pg}
+use Rattle.lp_parts.specs.Names.{is_state, is_output, with_texts, with_inputs, with_variables, with_pg}
 use Rattle.lp_parts.specs.Functions.{nothing, over_if_any, is_plain, plain_names, down_of}
-use Rattle.lp_parts.specs.Pins.{Scope, function_if_any, pg_of, pgs_at, pin_of, pins_at}
-use Rattle.lp_parts.proofs.Known.{either, known_with}
-use Rattle.lp_cells.specs.Sound.{is_over, is_over_if_any}
+use Rattle.lp_parts.specs.Pins.{Scope, direction_of, function_if_any, pg_of, pgs_at, pin_of, pins_at}
+use Rattle.lp_parts.proofs.Known.{known_with}
+use Rattle.lp_cells.specs.Sound.{input_names, is_over, is_over_if_any}
 
 -- ---- texts among texts
 
@@ -85,47 +87,53 @@ module _ (R : List (List ℕ)) where
   -- ---- the names of input pins
 
   module _ (place : ℕ) (sc : Scope) where
-    names_same : (g : GroupView) (args : List (List ℕ)) → map (λ (p : PinView). p.name) (map (pin_of sc g) args) ≡ args
-    names_same g [] = refl
-    names_same g (a ∷ args) = ap (λ (ts : List (List ℕ)). a ∷ ts) (names_same g args)
+    abbrev is_read : PinView → Bool
+    is_read p = is_input p.direction
 
-    args_known : (g : GroupView) → is_part place (codes "pin") g ≡ true → are_known R (map (λ (p : PinView). p.name) (pins_at place sc g)) ≡ true → are_known R g.args ≡ true
+    names_same : (g : GroupView) (args : List (List ℕ)) → is_output g ≡ false → input_names (map (pin_of sc g) args) ≡ args
+    names_same g [] e = refl
+    names_same g (a ∷ args) e = by (is_output g) e (names_same g args e)
+      where
+        others : List PinView
+        others = filter is_read (map (pin_of sc g) args)
+
+        by : (b : Bool) → b ≡ false → map (λ (p : PinView). p.name) others ≡ args → map (λ (p : PinView). p.name) (cond (is_input (direction_of b)) (pin_of sc g a ∷ others) others) ≡ a ∷ args
+        by true e same = absurd (true≢false e)
+        by false e same = ap (λ (ts : List (List ℕ)). a ∷ ts) same
+
+    args_known : (g : GroupView) → is_part place (codes "pin") g ≡ true → is_output g ≡ false → are_known R (input_names (pins_at place sc g)) ≡ true → are_known R g.args ≡ true
     unfolding pins_at
-    args_known g e known = subst (λ (ts : List (List ℕ)). are_known R ts ≡ true) (names_same g g.args) (rw e at known)
+    args_known g e inward known = subst (λ (ts : List (List ℕ)). are_known R ts ≡ true) (names_same g g.args inward) (rw e at known)
 
-    pub inputs_in : (groups : List GroupView) (set : List (List ℕ)) → are_known R set ≡ true → are_known R (map (λ (p : PinView). p.name) (flat_map (pins_at place sc) groups)) ≡ true → are_known R (fold (with_inputs place) set groups) ≡ true
+    pub inputs_in : (groups : List GroupView) (set : List (List ℕ)) → are_known R set ≡ true → are_known R (input_names (flat_map (pins_at place sc) groups)) ≡ true → are_known R (fold (with_inputs place) set groups) ≡ true
     inputs_in [] set known all = known
     inputs_in (g ∷ groups) set known all =
-        let both = known_mapped (λ (p : PinView). p.name) (pins_at place sc g) (flat_map (pins_at place sc) groups) all in
-        inputs_in groups (with_inputs place set g) (by (is_part place (codes "pin") g) refl both.0) both.1
+        let apart = subst (λ (ps : List PinView). are_known R (map (λ (p : PinView). p.name) ps) ≡ true) (filter-append is_read (pins_at place sc g) (flat_map (pins_at place sc) groups)) all in
+        let both = known_mapped (λ (p : PinView). p.name) (filter is_read (pins_at place sc g)) (filter is_read (flat_map (pins_at place sc) groups)) apart in
+        inputs_in groups (with_inputs place set g) (by (is_part place (codes "pin") g) (is_output g) refl refl both.0) both.1
       where
-        by : (b : Bool) → is_part place (codes "pin") g ≡ b → are_known R (map (λ (p : PinView). p.name) (pins_at place sc g)) ≡ true → are_known R (if b && not (is_output g) then with_texts set g.args else set) ≡ true
-        by true e here = either R (not (is_output g)) (with_texts set g.args) set (known_set g.args set known (args_known g e here)) known
-        by false e here = known
+        by : (b out : Bool) → is_part place (codes "pin") g ≡ b → is_output g ≡ out → are_known R (input_names (pins_at place sc g)) ≡ true → are_known R (if b && not out then with_texts set g.args else set) ≡ true
+        by true true e inward here = known
+        by true false e inward here = known_set g.args set known (args_known g e inward here)
+        by false out e inward here = known
 
   -- ---- the names of the state
 
-  module _ (place : ℕ) (pins : List (List ℕ)) where
-    variables_set : (texts set : List (List ℕ)) → are_known R set ≡ true → are_known R texts ≡ true → are_known R (fold (with_variable pins) set texts) ≡ true
-    variables_set [] set known all = known
-    variables_set (t ∷ texts) set known all =
-        let both = and_parts (has_text t R) (are_known R texts) all in
-        variables_set texts (with_variable pins set t) (either R (has_text t pins) set (with_text set t) known (known_with R set t known both.0)) both.1
-
-    none_more : (groups : List GroupView) (set : List (List ℕ)) → length (filter (is_state place) groups) ≡ 0 → fold (with_variables place pins) set groups ≡ set
+  module _ (place : ℕ) where
+    none_more : (groups : List GroupView) (set : List (List ℕ)) → length (filter (is_state place) groups) ≡ 0 → fold (with_variables place) set groups ≡ set
     none_more [] set e = refl
     none_more (g ∷ groups) set e = by (is_state place g) (λ h. none_more groups set h) e
       where
-        by : (b : Bool) → (length (filter (is_state place) groups) ≡ 0 → fold (with_variables place pins) set groups ≡ set) → length (cond b (g ∷ filter (is_state place) groups) (filter (is_state place) groups)) ≡ 0 → fold (with_variables place pins) (if b then fold (with_variable pins) set (take 2 g.args) else set) groups ≡ set
+        by : (b : Bool) → (length (filter (is_state place) groups) ≡ 0 → fold (with_variables place) set groups ≡ set) → length (cond b (g ∷ filter (is_state place) groups) (filter (is_state place) groups)) ≡ 0 → fold (with_variables place) (if b then with_texts set (take 2 g.args) else set) groups ≡ set
         by true more h = absurd (omega arith)
         by false more h = more h
 
-    pub variables_in : (groups : List GroupView) (set : List (List ℕ)) → are_known R set ≡ true → length (filter (is_state place) groups) ≤ 1 → ((g : GroupView) → find (is_state place) groups ≡ Some g → are_known R (take 2 g.args) ≡ true) → are_known R (fold (with_variables place pins) set groups) ≡ true
+    pub variables_in : (groups : List GroupView) (set : List (List ℕ)) → are_known R set ≡ true → length (filter (is_state place) groups) ≤ 1 → ((g : GroupView) → find (is_state place) groups ≡ Some g → are_known R (take 2 g.args) ≡ true) → are_known R (fold (with_variables place) set groups) ≡ true
     variables_in [] set known e first = known
     variables_in (g ∷ groups) set known e first = by (is_state place g) (λ h f. variables_in groups set known h f) e first
       where
-        by : (b : Bool) → (length (filter (is_state place) groups) ≤ 1 → ((h : GroupView) → find (is_state place) groups ≡ Some h → are_known R (take 2 h.args) ≡ true) → are_known R (fold (with_variables place pins) set groups) ≡ true) → length (cond b (g ∷ filter (is_state place) groups) (filter (is_state place) groups)) ≤ 1 → ((h : GroupView) → cond b (Some g) (find (is_state place) groups) ≡ Some h → are_known R (take 2 h.args) ≡ true) → are_known R (fold (with_variables place pins) (if b then fold (with_variable pins) set (take 2 g.args) else set) groups) ≡ true
-        by true more h here = rw (none_more groups (fold (with_variable pins) set (take 2 g.args)) (omega arith)) (variables_set (take 2 g.args) set known (here g refl))
+        by : (b : Bool) → (length (filter (is_state place) groups) ≤ 1 → ((h : GroupView) → find (is_state place) groups ≡ Some h → are_known R (take 2 h.args) ≡ true) → are_known R (fold (with_variables place) set groups) ≡ true) → length (cond b (g ∷ filter (is_state place) groups) (filter (is_state place) groups)) ≤ 1 → ((h : GroupView) → cond b (Some g) (find (is_state place) groups) ≡ Some h → are_known R (take 2 h.args) ≡ true) → are_known R (fold (with_variables place) (if b then with_texts set (take 2 g.args) else set) groups) ≡ true
+        by true more h here = rw (none_more groups (with_texts set (take 2 g.args)) (omega arith)) (known_set (take 2 g.args) set known (here g refl))
         by false more h here = more h here
 
   -- ---- functions over known names

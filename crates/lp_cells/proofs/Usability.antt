@@ -1,7 +1,7 @@
 -- A cell that passes, over names that differ, is one that can be used.
-use Rattle.std.proofs.Common.{◌≡◌, ℕ, ◌<◌, ◌≤◌, ◌+◌, Bool, true, false, List, [], ◌∷◌, ◌++◌, length, Option, Some, None, refl, sym, ap, ◌∙◌, subst, inl, inr, ◌⊎◌, ◌||◌}
+use Rattle.std.proofs.Common.{◌≡◌, ℕ, ◌<◌, ◌≤◌, ◌+◌, Bool, true, false, List, [], ◌∷◌, ◌++◌, length, Option, Some, None, refl, sym, ap, ◌∙◌, subst, inl, inr, ◌⊎◌, ◌&&◌, ◌||◌}
 use Rattle.std.specs.Prelude.{◌==◌, map, cond, is_some, nat_le, nat_lt, slice_get}
-use Rattle.std.specs.List.{All, list_all, list_any, position, position_from, flat_map}
+use Rattle.std.specs.List.{All, filter, list_all, list_any, position, position_from, flat_map}
 use Rattle.std.specs.Option.{option_map}
 use Rattle.std.proofs.lemmas.Bool.{and_parts, and_from, eq-eqb, leb-true, lt-ltb, true≢false}
 use Rattle.std.proofs.lemmas.List.{length-map}
@@ -20,13 +20,15 @@ use Rattle.lp_model.specs.declared.library.PgKind.{PgKind}
 use Rattle.lp_model.specs.declared.library.Switched.{Switched}
 use Rattle.lp_model.specs.declared.library.StateGroup.{StateGroup}
 use Rattle.lp_model.specs.LibraryView.{PgPinView, PinView, cell_numbers, cell_view, expr_numbers, expr_view, pg_pin_numbers, pg_pin_view, pin_numbers, pin_view, roles_numbers, state_numbers, state_view, switched_numbers, switched_view}
-use Rattle.lp_behaviour.specs.Signals.{pin_place}
-use Rattle.lp_behaviour.specs.Usable.{IsUsable, is_below_if_any, is_function, is_function_if_any, is_pg, is_signal, is_state_name, is_usable_pg, is_usable_pin, is_usable_state, is_usable_switched}
+use Rattle.lp_model.specs.declared.netlist.Direction.{Direction}
+use Rattle.lp_model.specs.declared.netlist.Direction.TheVariants.{Input, Output}
+use Rattle.lp_behaviour.specs.Signals.{input_place, is_input}
+use Rattle.lp_behaviour.specs.Usable.{IsUsable, acts_by_class, is_below_if_any, is_function, is_function_if_any, is_pg, is_signal, is_state_name, is_usable_pg, is_usable_pin, is_usable_state, is_usable_switched}
 use Rattle.lp_attributes.proofs.Below.{below_head, below_left, below_right, below_tail}
 use Rattle.lp_parts.specs.Functions.{kinds_of}
 use Rattle.lp_parts.specs.Pins.{floats}
 use Rattle.lp_cells.specs.Reasons.{is_ground_at, is_power_at, names_ground, names_power}
-use Rattle.lp_cells.specs.Sound.{has_function, has_functions, has_names, has_related, is_grounded_at, is_over, is_over_if_any, is_sound_cell, is_sound_pg, is_sound_pin, is_sound_state, is_sound_switched, passes, pg_names_of, signals_of, state_names}
+use Rattle.lp_cells.specs.Sound.{has_function, has_functions, has_names, has_related, input_names, is_grounded_at, is_over, is_over_if_any, is_sound_cell, is_sound_pg, is_sound_pin, is_sound_state, is_sound_switched, passes, pg_names_of, signals_of, state_names}
 
 or_either : (a b : Bool) → (a || b) ≡ true → (a ≡ true) ⊎ (b ≡ true)
 or_either true b e = inl refl
@@ -62,13 +64,23 @@ module _ (T : List (List ℕ)) (apart : distinct T ≡ true) where
   is_number : (a v : ℕ) → a < length T → v < length T → same_text (text_at T v) (text_at T a) ≡ true → (a == v) ≡ true
   is_number a v l m e = eq-eqb a v (same_number a v l m (sym (same_text-true (text_at T v) (text_at T a) e)))
 
-  any_pin : (pins : List Pin) (v : ℕ) → v < length T → numbers_below (length T) (flat_map pin_numbers pins) ≡ true → has_text (text_at T v) (map (λ (p : PinView). p.name) (map (pin_view T) pins)) ≡ true → list_any (λ (p : Pin). p.name.0 == v) pins ≡ true
+  any_pin : (pins : List Pin) (v : ℕ) → v < length T → numbers_below (length T) (flat_map pin_numbers pins) ≡ true → has_text (text_at T v) (input_names (map (pin_view T) pins)) ≡ true → list_any (λ (p : Pin). is_input p.direction && (p.name.0 == v)) pins ≡ true
   any_pin [] v l below has = absurd (true≢false (sym has))
-  any_pin (p ∷ pins) v l below has =
-      elim (or_either (same_text (text_at T v) (text_at T p.name.0)) (has_text (text_at T v) (map (λ (p : PinView). p.name) (map (pin_view T) pins))) has) [
-        | inl here ↦ or_left (p.name.0 == v) (list_any (λ (p : Pin). p.name.0 == v) pins) (is_number p.name.0 v (below_head (length T) p.name.0 _ (below_left (length T) (pin_numbers p) (flat_map pin_numbers pins) below)) l here)
-        | inr there ↦ or_right (p.name.0 == v) (list_any (λ (p : Pin). p.name.0 == v) pins) (any_pin pins v l (below_right (length T) (pin_numbers p) (flat_map pin_numbers pins) below) there)
-      ]
+  any_pin (p ∷ pins) v l below has = by p.direction (any_pin pins v l (below_right (length T) (pin_numbers p) (flat_map pin_numbers pins) below)) has
+    where
+      others : List PinView
+      others = filter (λ (q : PinView). is_input q.direction) (map (pin_view T) pins)
+
+      more : Bool
+      more = list_any (λ (q : Pin). is_input q.direction && (q.name.0 == v)) pins
+
+      by : (d : Direction) → (has_text (text_at T v) (map (λ (q : PinView). q.name) others) ≡ true → more ≡ true) → has_text (text_at T v) (map (λ (q : PinView). q.name) (cond (is_input d) (pin_view T p ∷ others) others)) ≡ true → ((is_input d && (p.name.0 == v)) || more) ≡ true
+      by Output behind there = behind there
+      by Input behind has =
+          elim (or_either (same_text (text_at T v) (text_at T p.name.0)) (has_text (text_at T v) (map (λ (q : PinView). q.name) others)) has) [
+            | inl here ↦ or_left (p.name.0 == v) more (is_number p.name.0 v (below_head (length T) p.name.0 _ (below_left (length T) (pin_numbers p) (flat_map pin_numbers pins) below)) l here)
+            | inr there ↦ or_right (p.name.0 == v) more (behind there)
+          ]
 
   any_pg : (pgs : List PgPin) (v : ℕ) → v < length T → numbers_below (length T) (flat_map pg_pin_numbers pgs) ≡ true → has_text (text_at T v) (map (λ (p : PgPinView). p.name) (map (pg_pin_view T) pgs)) ≡ true → list_any (λ (p : PgPin). p.name.0 == v) pgs ≡ true
   any_pg [] v l below has = absurd (true≢false (sym has))
@@ -125,13 +137,13 @@ module _ (T : List (List ℕ)) (apart : distinct T ≡ true) where
     roles_below = below_right (length T) of_state (roles_numbers c.roles) behind_pins
 
     abbrev pin_names : List (List ℕ)
-    pin_names = map (λ (p : PinView). p.name) (map (pin_view T) c.pins)
+    pin_names = input_names (map (pin_view T) c.pins)
 
     signal : (v : NameId) → v.0 < length T → has_text (text_at T v.0) (signals_of (cell_view T c)) ≡ true → is_signal c v ≡ true
     signal v l has =
         elim (or_either (has_text (text_at T v.0) pin_names) (has_text (text_at T v.0) (state_names (option_map (state_view T) c.state))) (sym (has_text-append (text_at T v.0) pin_names (state_names (option_map (state_view T) c.state))) ∙ has)) [
-          | inl pin ↦ or_left (is_some (pin_place c.pins v)) (is_state_name c.state v) (has_place (λ (p : Pin). p.name.0 == v.0) c.pins (any_pin c.pins v.0 l pins_below pin))
-          | inr state ↦ or_right (is_some (pin_place c.pins v)) (is_state_name c.state v) (named c.state v l state_below state)
+          | inl pin ↦ or_left (is_some (input_place c.pins v)) (is_state_name c.state v) (has_place (λ (p : Pin). is_input p.direction && (p.name.0 == v.0)) c.pins (any_pin c.pins v.0 l pins_below pin))
+          | inr state ↦ or_right (is_some (input_place c.pins v)) (is_state_name c.state v) (named c.state v l state_below state)
         ]
 
     pg : (v : NameId) → v.0 < length T → has_text (text_at T v.0) (pg_names_of (cell_view T c)) ≡ true → is_pg c v ≡ true
@@ -214,14 +226,15 @@ module _ (T : List (List ℕ)) (apart : distinct T ≡ true) where
     pin_usable p low sound =
         let kinds = kinds_of (map (pg_pin_view T) c.pgs) in
         let floating = floats c.roles.switch (map (pg_pin_view T) c.pgs) in
-        let parts = and_parts (has_related floating kinds (pin_view T p)) (has_functions (signals_of (cell_view T c)) (pg_names_of (cell_view T c)) (pin_view T p)) sound in
+        let parts = and_parts (has_related floating kinds (pin_view T p)) _ sound in
         let related = and_parts (names_power kinds (Some p.power)) (is_grounded_at floating kinds p.gnd) parts.0 in
-        let functions = and_parts (has_function p.direction (option_map (expr_view T) p.function)) _ parts.1 in
+        let rest = and_parts (has_functions (signals_of (cell_view T c)) (pg_names_of (cell_view T c)) (pin_view T p)) (acts_by_class p.use_of) parts.1 in
+        let functions = and_parts (has_function p.direction (option_map (expr_view T) p.function)) _ rest.0 in
         let over = and_parts (is_over_if_any (signals_of (cell_view T c)) (option_map (expr_view T) p.function)) (is_over_if_any (pg_names_of (cell_view T c)) (option_map (expr_view T) p.power_down)) functions.1 in
         let own = below_tail (length T) p.name.0 (option_numbers expr_numbers p.function ++ option_numbers expr_numbers p.power_down) low in
         and_from _ _ (signals_if_any p.function (below_left (length T) (option_numbers expr_numbers p.function) (option_numbers expr_numbers p.power_down) own) over.0)
         (and_from _ _ (pgs_if_any p.power_down (below_right (length T) (option_numbers expr_numbers p.function) (option_numbers expr_numbers p.power_down) own) over.1)
-        (and_from _ _ (power_within p.power related.0) (below_by floating p.gnd related.1)))
+        (and_from _ _ (power_within p.power related.0) (and_from _ _ (below_by floating p.gnd related.1) rest.1)))
 
     pins_usable : (pins : List Pin) → numbers_below (length T) (flat_map pin_numbers pins) ≡ true → list_all (is_sound_pin (cell_view T c)) (map (pin_view T) pins) ≡ true → list_all (is_usable_pin c) pins ≡ true
     pins_usable [] low sound = refl

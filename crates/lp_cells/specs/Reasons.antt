@@ -6,7 +6,6 @@ use Rattle.lp_model.specs.declared.reason.Reason.{Reason}
 use Rattle.lp_model.specs.declared.reason.Reason.TheVariants as reasons
 use Rattle.lp_model.specs.declared.library.PgKind.{PgKind}
 use Rattle.lp_model.specs.declared.library.RetClass.{RetClass}
-use Rattle.lp_model.specs.declared.library.RetClass.TheVariants as classes
 use Rattle.lp_model.specs.GroupsView.{GroupView}
 use Rattle.lp_model.specs.LibraryView.{PgPinView, PinView}
 use Rattle.lp_attributes.specs.Attributes.{value_of, values_of}
@@ -15,7 +14,7 @@ use Rattle.lp_attributes.specs.Words.{direction}
 use Rattle.lp_parts.specs.Source.{arg_at, stands_in, is_part}
 use Rattle.lp_parts.specs.Names.{is_state, is_output}
 use Rattle.lp_parts.specs.Functions.{is_power, is_ground, kinds_of, passed}
-use Rattle.lp_parts.specs.Pins.{Scope, kind_of, is_internal_power, is_primary_power, is_primary_ground, action_of, class_of}
+use Rattle.lp_parts.specs.Pins.{Scope, kind_of, is_internal_power, is_primary_power, is_primary_ground, action_of, class_of, saves, restores}
 use Rattle.lp_parts.specs.Roles.{range_if_any, copy_of, is_retention, is_switch}
 use Rattle.lp_parts.specs.States.{is_pin, next_text, clock_text}
 
@@ -159,16 +158,6 @@ has_two test groups = nat_lt 1 (length (filter test groups))
 
 -- ---- retention
 
-abbrev pub saves : RetClass → Bool
-saves classes.Save = true
-saves classes.Restore = false
-saves classes.Both = true
-
-abbrev pub restores : RetClass → Bool
-restores classes.Save = false
-restores classes.Restore = true
-restores classes.Both = true
-
 -- an action that is known; a missing one may be needed or not
 abbrev pub is_action : Bool → List ℕ → GroupView → Bool
 is_action needed word g = is_some (action_of word g) || (not needed && is_none (value_of word g))
@@ -202,7 +191,7 @@ has_three_state g = is_some (value_of (codes "three_state") g)
 -- the group is a construct that is not taken, or has one
 abbrev pub is_construct : ℕ → GroupView → Bool
 is_construct place g =
-    if is_part place (codes "pin") g then has_condition g || has_three_state g
+    if is_pin place g then has_condition g || has_three_state g
     else if is_state place g || is_part place (codes "retention_condition") g then has_condition g
     else stands_in place g && is_left_out g.word
 

@@ -1,11 +1,13 @@
--- What stands of every cell that can be used (own rule): its names, its related pins and its functions.
+-- What stands of every cell that can be used (own rule): its names, its related pins, its functions and its retention pins.
 use Rattle.std.specs.Prelude.{ℕ, Bool, true, ◌&&◌, ◌||◌, if◌then◌else◌, nat_le, nat_lt, List, [], ◌∷◌, ◌++◌, length, map, Option, Some, None, is_some, is_none}
-use Rattle.std.specs.List.{list_all}
+use Rattle.std.specs.List.{filter, list_all}
 use Rattle.lp_text.specs.Texts.{has_text, distinct}
 use Rattle.lp_model.specs.declared.netlist.Direction.{Direction}
 use Rattle.lp_model.specs.declared.netlist.Direction.TheVariants as directions
 use Rattle.lp_model.specs.declared.library.PgKind.{PgKind}
 use Rattle.lp_model.specs.LibraryView.{ExprView, SwitchedView, PgPinView, PinView, StateView, CellView}
+use Rattle.lp_behaviour.specs.Signals.{is_input}
+use Rattle.lp_behaviour.specs.Usable.{acts_by_class}
 use Rattle.lp_parts.specs.Functions.{kinds_of}
 use Rattle.lp_parts.specs.Pins.{floats}
 use Rattle.lp_cells.specs.Reasons.{all_names, is_free, is_visible, names_ground, names_power}
@@ -16,13 +18,16 @@ use Rattle.lp_cells.specs.Reasons.{all_names, is_free, is_visible, names_ground,
 abbrev pub has_names : CellView → Bool
 has_names c = is_free c.name && (list_all is_visible (all_names c.pins c.pgs) && distinct (all_names c.pins c.pgs))
 
--- the names that a function may have: those of pins, of the state and of its inverse
+-- the names that a function may have: those of input pins, of the state and of its inverse
 abbrev pub state_names : Option StateView → List (List ℕ)
 state_names None = []
 state_names (Some s) = s.var ∷ s.inverse ∷ []
 
+abbrev pub input_names : List PinView → List (List ℕ)
+input_names pins = map (λ (p : PinView). p.name) (filter (λ (p : PinView). is_input p.direction) pins)
+
 abbrev pub signals_of : CellView → List (List ℕ)
-signals_of c = map (λ (p : PinView). p.name) c.pins ++ state_names c.state
+signals_of c = input_names c.pins ++ state_names c.state
 
 -- the names that a power_down_function may have
 abbrev pub pg_names_of : CellView → List (List ℕ)
@@ -56,8 +61,12 @@ has_functions signals pgs p = has_function p.direction p.function && (is_over_if
 abbrev pub has_related : Bool → List PgKind → PinView → Bool
 has_related floating kinds p = names_power kinds (Some p.power) && is_grounded_at floating kinds p.gnd
 
+-- and a retention pin has the actions of its class, and no other one
 abbrev pub is_sound_pin : CellView → PinView → Bool
-is_sound_pin c p = has_related (floats c.roles.switch c.pgs) (kinds_of c.pgs) p && has_functions (signals_of c) (pg_names_of c) p
+is_sound_pin c p =
+    has_related (floats c.roles.switch c.pgs) (kinds_of c.pgs) p
+    && (has_functions (signals_of c) (pg_names_of c) p
+    && acts_by_class p.use_of)
 
 -- a switched pin passes on a pin of the cell
 abbrev pub is_sound_switched : List (List ℕ) → ℕ → Option SwitchedView → Bool

@@ -2,12 +2,14 @@ ghost use Rattle.std.specs.Prelude.{◌≡◌, ◌||◌, Some, IfOk, is_some, ma
 ghost use Rattle.std.specs.List.{list_any};
 ghost use Rattle.lp_model.specs.Agreement.{name_texts};
 ghost use Rattle.lp_model.specs.GroupsView.{group_view};
-ghost use Rattle.lp_cells.specs.Reasons.{has_bad_related, has_bad_retention, has_no_direction, has_no_kind, is_action, is_direction, is_grounded, is_powered, is_related, names_ground, names_power, restores, retains_well, saves};
+ghost use Rattle.lp_cells.specs.Reasons.{has_bad_related, has_bad_retention, has_no_direction, has_no_kind, is_action, is_direction, is_grounded, is_powered, is_related, names_ground, names_power, retains_well};
 ghost use Rattle.lp_parts.specs.Views.{frame_view};
 
 use lp_attributes::{direction, has, value, values};
-use lp_model::{Group, PgPin, RetClass};
-use lp_parts::{Frame, action_of, class_of, is_ground, is_part, is_pin, is_power, kind_of};
+use lp_model::{Group, PgPin};
+use lp_parts::{
+    Frame, action_of, class_of, is_ground, is_part, is_pin, is_power, kind_of, restores, saves,
+};
 use lp_text::{NameId, Names, NoMemory, Word};
 use std::alloc::Global;
 
@@ -174,20 +176,6 @@ pub(crate) fn any_unrelated(
         }
     }
     Ok(false)
-}
-
-/// Whether a class saves.
-fn saves(class: RetClass) -> bool
-    ensures { result ≡ saves class }
-{
-    matches!(class, RetClass::Save | RetClass::Both)
-}
-
-/// Whether a class restores.
-fn restores(class: RetClass) -> bool
-    ensures { result ≡ restores class }
-{
-    matches!(class, RetClass::Restore | RetClass::Both)
 }
 
 /// Whether an action is known, or missing where it may be.

@@ -23,9 +23,9 @@ pub fn one_library_answer()
 {}
 
 /// A cell without a reason is sound: its names are visible and differ, its pins have related pins of their kind that are
-/// no bias pins, its outputs have functions, each name in a function is that of a pin or of the state, and it has at most
-/// 8 power and ground pins and 240 signal pins. So each cell without a reason of a library that is read is usable in the
-/// sense of the cells' behaviour.
+/// no bias pins, its outputs have functions, each name in a function is that of an input pin or of the state, its
+/// retention pins have the actions of their class alone, and it has at most 8 power and ground pins and 240 signal pins.
+/// So each cell without a reason of a library that is read is usable in the sense of the cells' behaviour.
 pub fn usable_cells_are_sound()
     ensures sound { (files : List (List GroupView)) (cells : List CellView) → IsLibrary files cells → list_all is_sound_cell cells ≡ true }
     ensures usable { (names : List (List ℕ)) (files : List (List GroupView)) (library : Library) → distinct names ≡ true → numbers_below (length names) (library_numbers library) ≡ true → IsLibrary files (library_view names library) → All (λ c. c.unusable ≡ None → IsUsable c) library.cells }

@@ -7,7 +7,7 @@ ghost use Rattle.lp_cells.specs.Reasons.{has_bad_range, has_condition, has_two, 
 
 use lp_attributes::{has, range, values};
 use lp_model::Group;
-use lp_parts::{is_part, is_state, is_word, stands_in};
+use lp_parts::{is_part, is_pin, is_state, is_word, stands_in};
 use lp_text::Names;
 
 /// Whether a range is there and does not read.
@@ -69,7 +69,7 @@ pub(crate) fn has_condition(names: &Names, group: &Group) -> bool
 fn is_construct(names: &Names, place: usize, group: &Group) -> bool
     ensures { result ≡ is_construct place (group_view names.now group.now) }
 {
-    if is_part(names, place, group, "pin") {
+    if is_pin(names, place, group) {
         return has_condition(names, group) || has(names, group, "three_state");
     }
     if is_state(names, place, group) || is_part(names, place, group, "retention_condition") {

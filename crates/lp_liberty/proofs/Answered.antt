@@ -7,10 +7,10 @@ use Rattle.lp_liberty.specs.declared.run.Stop.TheVariants as stops
 use Rattle.lp_liberty.specs.Grammar.{below_64, Body, Limited}
 use Rattle.lp_liberty.specs.Meaning.{groups_in}
 use Rattle.lp_liberty.specs.Machine.{Reading, Whole, Stopped, Deep, Long, read_in, start}
-use Rattle.lp_liberty.specs.Tokens.{Placed, tokens_of}
+use Rattle.lp_liberty.specs.Tokens.{Placed, tokens_of, bare}
 use Rattle.lp_liberty.specs.Outcome.{IsStop}
 use Rattle.lp_liberty.specs.Denotes as denotes
-use Rattle.lp_liberty.specs.Denotes.{Denotes, IsTokens, bare, index_in, LeavesForm, HasDeepGroup, HasLongToken, RefusedAs}
+use Rattle.lp_liberty.specs.Denotes.{Denotes, IsTokens, index_in, LeavesForm, HasDeepGroup, HasLongToken, RefusedAs}
 use Rattle.lp_liberty.specs.Stops.{StopsAt, refusal_by}
 use Rattle.lp_liberty.specs.declared.mark.Context.TheVariants as contexts
 use Rattle.lp_liberty.proofs.Standing.{found_tokens, one_listing}

@@ -19,8 +19,8 @@ use Rattle.lp_liberty.specs.declared.mark.Mode.{Mode}
 use Rattle.lp_liberty.specs.declared.mark.Mode.TheVariants as modes
 use Rattle.lp_liberty.specs.declared.run.Stop.{Stop}
 use Rattle.lp_liberty.specs.Grammar.{Token, Name, Sign}
-use Rattle.lp_liberty.specs.Tokens.{Placed}
-use Rattle.lp_liberty.specs.Machine.{Machine, start, with_attr, with_attr_at, with_attr_in, ended, innermost, opened_in, name_by, name_in, begin_name, mark_by, mark_in, shut_by, begin_mark, in_mode, holding, is_filled, is_done_by, Refused, Reading, Whole, Stopped, Deep, Long, stepped, is_deep_by, numbered_as, taken_in, read_on, read_in}
+use Rattle.lp_liberty.specs.Tokens.{Placed, bare}
+use Rattle.lp_liberty.specs.Machine.{Machine, start, with_attr, with_attr_at, with_attr_in, ended, innermost, opened_in, name_by, name_in, begin_name, mark_by, mark_in, shut_by, begin_mark, in_mode, holding, is_filled, is_done_by, Refused, Reading, Whole, Stopped, Deep, Long, stepped, is_deep_by, is_deep_ahead, numbered_as, taken_in, read_on, read_in}
 use Rattle.lp_liberty.proofs.Few.{either}
 use Rattle.lp_liberty.proofs.Reading.{placed_new}
 
@@ -218,13 +218,17 @@ module _ (size : ℕ) (final : List (List ℕ)) (groups : List Group) where
       no_whole true r s h = absurd cc
       no_whole false r s h = absurd cc
 
-  small_step : (more : List (List ℕ) → Machine → Reading) → More more → (names : List (List ℕ)) (m : Machine) (t : Placed) (long : Bool) → read_on more (if long then Refused (Long t.at) else taken_in names m t.at t.token) ≡ Whole final groups → Small names m
-  small_step more next names m t true e = absurd cc
-  small_step more next names m t false e = small_token more next names m t.at t.token e
+  long_whole : (deep : Bool) (head at : ℕ) → (if deep then Deep head else Long at) ≡ Whole final groups → ⊥
+  long_whole true head at e = absurd cc
+  long_whole false head at e = absurd cc
+
+  small_step : (more : List (List ℕ) → Machine → Reading) → More more → (names : List (List ℕ)) (m : Machine) (t : Placed) (deep long : Bool) → read_on more (if long then Refused (if deep then Deep m.head else Long t.at) else taken_in names m t.at t.token) ≡ Whole final groups → Small names m
+  small_step more next names m t deep true e = absurd (long_whole deep m.head t.at e)
+  small_step more next names m t deep false e = small_token more next names m t.at t.token e
 
   small : (tokens : List Placed) → More (λ names m. read_in size names m tokens)
   small [] names m e = small_done names m (is_done_by m.mode m.opened) e
-  small (t ∷ tokens) names m e = small_step (λ new u. read_in size new u tokens) (small tokens) names m t (nat_lt 1048576 t.size) e
+  small (t ∷ tokens) names m e = small_step (λ new u. read_in size new u tokens) (small tokens) names m t (is_deep_ahead m (t.token ∷ bare tokens)) (nat_lt 1048576 t.size) e
 
 pub numbers_ok : (size : ℕ) (tokens : List Placed) (names old : List (List ℕ)) (r : Result (List Group) Stop) → IfOk r (λ groups. read_in size old start tokens ≡ Whole names groups) → IfOk r (λ groups. numbers_below (length names) (flat_map group_numbers groups) ≡ true)
 numbers_ok size tokens names old (Err stop) h = tt

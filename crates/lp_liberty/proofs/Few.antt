@@ -11,7 +11,7 @@ use Rattle.lp_liberty.specs.declared.mark.Last.TheVariants as lasts
 use Rattle.lp_liberty.specs.declared.mark.Mode.{Mode}
 use Rattle.lp_liberty.specs.declared.mark.Mode.TheVariants as modes
 use Rattle.lp_liberty.specs.Grammar.{Token, Name, Sign}
-use Rattle.lp_liberty.specs.Machine.{Machine, with_attr_at, with_attr_in, ended, innermost, opened_in, name_by, name_in, begin_name, mark_by, mark_in, shut_by, begin_mark, in_mode, holding, is_filled, Taken, Refused, Reading, Stopped, Deep, Long, stepped, is_deep_by, numbered_as, taken_in, step_at, Step}
+use Rattle.lp_liberty.specs.Machine.{Machine, with_attr_at, with_attr_in, ended, innermost, opened_in, name_by, name_in, begin_name, mark_by, mark_in, shut_by, begin_mark, in_mode, holding, is_filled, Taken, Refused, Reading, Stopped, Deep, stepped, is_deep_by, numbered_as, taken_in, step_at, Step}
 
 -- from one machine to the next
 abbrev pub OneMore : Machine → Machine → Type 0
@@ -127,10 +127,10 @@ module _ (names new : List (List ℕ)) (m n : Machine) (at : ℕ) where
   token (Name quoted w) e = of (Stopped at) (with_text names w) (name_in quoted (numbered_as (with_text names w) w) at m) (name_few m.mode quoted (numbered_as (with_text names w) w) at m) e
   token (Sign k) e = of (if is_deep_by m.mode k then Deep m.head else Stopped at) names (mark_in k m) (mark_few m.mode k m) e
 
-  of_size : (c : Bool) (s : Step) → (s ≡ Taken new n → OneMore m n) → (if c then Refused (Long at) else s) ≡ Taken new n → OneMore m n
-  of_size true s h e = absurd cc
-  of_size false s h e = h e
+  of_size : (c : Bool) (stop : Reading) (s : Step) → (s ≡ Taken new n → OneMore m n) → (if c then Refused stop else s) ≡ Taken new n → OneMore m n
+  of_size true stop s h e = absurd cc
+  of_size false stop s h e = h e
 
-  pub step_few : (size : ℕ) (o : Option Token) → step_at names m at size o ≡ Taken new n → OneMore m n
-  step_few size None e = of_size (nat_lt 1048576 size) (Taken names m) (λ h. let same : m ≡ n = cc in subst (OneMore m) same (omega arith)) e
-  step_few size (Some t) e = of_size (nat_lt 1048576 size) (taken_in names m at t) (token t) e
+  pub step_few : (stop : Reading) (size : ℕ) (o : Option Token) → step_at stop names m at size o ≡ Taken new n → OneMore m n
+  step_few stop size None e = of_size (nat_lt 1048576 size) stop (Taken names m) (λ h. let same : m ≡ n = cc in subst (OneMore m) same (omega arith)) e
+  step_few stop size (Some t) e = of_size (nat_lt 1048576 size) stop (taken_in names m at t) (token t) e

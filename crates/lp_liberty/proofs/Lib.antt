@@ -1,3 +1,4 @@
+mod Heads
 mod Always
 mod Answered
 mod Attrs
@@ -14,5 +15,6 @@ mod Running
 mod Shown
 mod Simulation
 mod Standing
+mod TooDeep
 mod Within
 mod Zipper

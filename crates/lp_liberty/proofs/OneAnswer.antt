@@ -13,9 +13,9 @@ use Rattle.lp_model.specs.declared.fault.refusal.Refusal.TheVariants as refusals
 use Rattle.lp_liberty.specs.declared.mark.Mark.TheVariants as marks
 use Rattle.lp_liberty.specs.declared.mark.Context.TheVariants as contexts
 use Rattle.lp_liberty.specs.Grammar.{Token, Name, Sign, Form, Limited, always, below_64, are_args, are_more_args}
-use Rattle.lp_liberty.specs.Tokens.{Placed}
+use Rattle.lp_liberty.specs.Tokens.{Placed, bare}
 use Rattle.lp_liberty.specs.Denotes as denotes
-use Rattle.lp_liberty.specs.Denotes.{Denotes, IsTokens, bare, are_short, index_in, KeepsLimits, LeavesForm, HasLongToken, HasDeepGroup, RefusedAs}
+use Rattle.lp_liberty.specs.Denotes.{Denotes, IsTokens, are_short, index_in, KeepsLimits, LeavesForm, HasLongToken, HasDeepGroup, RefusedAs}
 use Rattle.lp_liberty.proofs.Joined.{conj_left, conj_right, semi_after}
 use Rattle.lp_liberty.proofs.Zipper as zip
 use Rattle.lp_liberty.proofs.Found.{spells}
@@ -36,7 +36,7 @@ cut (t ∷ text) (suc p) zero less within = absurd (omega arith)
 cut (t ∷ text) (suc p) (suc q) less within = let b = cut text p q (omega arith) (omega arith) in (b.0, b.1, b.2, b.3, ap (λ xs. t ∷ xs) b.4)
 
 -- no text of the language has more of the front than up to the place
-no_further : (language : List Token → Type 0) (text : List Token) (p q : ℕ) → Leaves Token language text p → p < q → q ≤ length text → (rest : List Token) → language (take q text ++ rest) → ⊥
+pub no_further : (language : List Token → Type 0) (text : List Token) (p q : ℕ) → Leaves Token language text p → p < q → q ≤ length text → (rest : List Token) → language (take q text ++ rest) → ⊥
 no_further language text p q h less within rest l =
     let b = cut text p q less within in
     h.here b.0 b.1 b.3 (b.2 ++ rest) (subst language (ap (λ xs. xs ++ rest) b.4 ∙ append_assoc (take p text) (b.0 ∷ b.2) rest) l)
@@ -125,7 +125,7 @@ module _ (end : ℕ) (tokens : List Placed) where
   deep_off i j a b =
       let same = same_number a.number b.number
       (λ h. no_further Limited (bare tokens) a.number b.number a.leaves h b.leaves.within b.before.goes_on.0 b.before.goes_on.1)
-      (λ h. no_further Form (bare tokens) b.number a.number b.leaves h a.leaves.within a.before.goes_on.0 (limited_form (take a.number (bare tokens) ++ a.before.goes_on.0) a.before.goes_on.1)) in
+      (λ h. no_further Form (bare tokens) b.number a.number b.leaves h a.leaves.within a.before.0 (limited_form (take a.number (bare tokens) ++ a.before.0) a.before.1)) in
       b.leaves.here (Sign marks.BraceOpen) (brace_after a).0 (ap (λ n. drop n (bare tokens)) (sym same) ∙ (brace_after a).1) a.goes_on.0 (subst Form (ap (λ xs. xs ++ a.goes_on.0) a.brace ∙ append_assoc (take a.number (bare tokens)) (Sign marks.BraceOpen ∷ []) a.goes_on.0 ∙ ap (λ n. take n (bare tokens) ++ Sign marks.BraceOpen ∷ a.goes_on.0) same) a.goes_on.1)
     where
       one_more : (xs : List Token) (n : ℕ) (t : Token) → take (suc n) xs ≡ take n xs ++ t ∷ [] → (rest : List Token) × (drop n xs ≡ t ∷ rest)
@@ -145,6 +145,21 @@ module _ (end : ℕ) (tokens : List Placed) where
       let tokens_same : a.token ∷ a.after ≡ b.token ∷ b.after = sym a.here ∙ ap (λ n. drop n tokens) same ∙ b.here in
       let token_same : a.token ≡ b.token = cc in
       a.is ∙ ap (λ (t : Placed). t.at) token_same ∙ sym b.is
+
+  -- the word of a group that is too deep may be too long itself
+  long_deep : (i j : ℕ) → HasLongToken tokens i → HasDeepGroup end tokens j → i ≡ j
+  long_deep i j a b =
+      let within = within_drop a.number tokens a.token a.after a.here in
+      let first = a.first end j b in
+      let same = same_number a.number (length b.front)
+      (λ h. let s = short_at tokens a.number (length b.front) a.token a.after b.short h a.here in let l = a.long in absurd (omega arith))
+      (λ h. absurd (omega arith)) in
+      a.is ∙ index_at a.number tokens a.token a.after a.here ∙ ap (index_in end tokens) same ∙ sym b.is
+    where
+      index_at : (k : ℕ) (ts : List Placed) (t : Placed) (rest : List Placed) → drop k ts ≡ t ∷ rest → t.at ≡ index_in end ts k
+      index_at zero ts t rest e = ap (λ xs. index_in end xs 0) (sym e)
+      index_at (suc k) [] t rest e = absurd cc
+      index_at (suc k) (x ∷ ts) t rest e = index_at k ts t rest e
 
   long_stop : (i : ℕ) → HasLongToken tokens i → (language : List Token → Type 0) → ((ts : List Token) → Limited ts → language ts) → (p : ℕ) → IsTrue (are_short (take (suc p) tokens)) → Leaves Token language (bare tokens) p → ⊥
   long_stop i a language from p short h = by (compare_numbers p a.number)
@@ -197,13 +212,13 @@ module _ (file : ℕ) (text : List ℕ) where
   with_long : (tokens : List Placed) (i : ℕ) → length text ≤ 67108864 → IsTokens text tokens → HasLongToken tokens i → (s : Refusal) → RefusedAs file text s → OneRefusal (limit i) s
   with_long tokens i small t h s (denotes.Large g) = absurd (omega arith)
   with_long tokens i small t h s (denotes.Long others j small2 u g) = inr (inr (ap limit (long_long (length text) tokens i j h (subst (λ (ts : List Placed). HasLongToken ts j) (same_tokens text tokens others t u) g))))
-  with_long tokens i small t h s (denotes.Deep others j small2 u g) = let k = subst (λ (ts : List Placed). HasDeepGroup (length text) ts j) (same_tokens text tokens others t u) g in absurd (long_stop (length text) tokens i h Limited (λ ts l. l) k.number k.short k.leaves)
+  with_long tokens i small t h s (denotes.Deep others j small2 u g) = inr (inr (ap limit (long_deep (length text) tokens i j h (subst (λ (ts : List Placed). HasDeepGroup (length text) ts j) (same_tokens text tokens others t u) g))))
   with_long tokens i small t h s (denotes.Off others j small2 u g) = let k = subst (λ (ts : List Placed). LeavesForm (length text) ts j) (same_tokens text tokens others t u) g in absurd (long_stop (length text) tokens i h Form limited_form k.number k.short k.leaves)
   with_long tokens i small t h s denotes.NoMemory = inr (inl refl)
 
   with_deep : (tokens : List Placed) (i : ℕ) → length text ≤ 67108864 → IsTokens text tokens → HasDeepGroup (length text) tokens i → (s : Refusal) → RefusedAs file text s → OneRefusal (limit i) s
   with_deep tokens i small t h s (denotes.Large g) = absurd (omega arith)
-  with_deep tokens i small t h s (denotes.Long others j small2 u g) = let k = subst (λ (ts : List Placed). HasLongToken ts j) (same_tokens text tokens others t u) g in absurd (long_stop (length text) tokens j k Limited (λ ts l. l) h.number h.short h.leaves)
+  with_deep tokens i small t h s (denotes.Long others j small2 u g) = inr (inr (ap limit (sym (long_deep (length text) tokens j i (subst (λ (ts : List Placed). HasLongToken ts j) (same_tokens text tokens others t u) g) h))))
   with_deep tokens i small t h s (denotes.Deep others j small2 u g) = inr (inr (ap limit (deep_deep (length text) tokens i j h (subst (λ (ts : List Placed). HasDeepGroup (length text) ts j) (same_tokens text tokens others t u) g))))
   with_deep tokens i small t h s (denotes.Off others j small2 u g) = absurd (deep_off (length text) tokens i j h (subst (λ (ts : List Placed). LeavesForm (length text) ts j) (same_tokens text tokens others t u) g))
   with_deep tokens i small t h s denotes.NoMemory = inr (inl refl)

@@ -1,8 +1,8 @@
 -- What the list machine answers is what the text denotes, or where it is refused.
-use Rattle.std.proofs.Common.{◌≡◌, ℕ, zero, suc, ◌+◌, ◌-◌, ◌<◌, ◌≤◌, Bool, true, false, List, [], ◌∷◌, ◌++◌, length, take, drop, drop-drop, Option, Some, None, refl, sym, ap, ◌∙◌, subst, arith, append_assoc}
+use Rattle.std.proofs.Common.{◌≡◌, ℕ, zero, suc, ◌+◌, ◌-◌, ◌<◌, ◌≤◌, Bool, true, false, not, ◌&&◌, ◌||◌, List, [], ◌∷◌, ◌++◌, length, length-append, take, drop, drop-drop, Option, Some, None, refl, sym, ap, ◌∙◌, subst, arith, append_assoc}
 use Rattle.std.specs.Prelude.{if◌then◌else◌, nat_le, nat_lt, IsTrue, map, option_and_then, unwrap_or, is_some}
 use Rattle.std.proofs.lemmas.List.{append-nil, length-map, length-drop, length-take-le, take-append-drop}
-use Rattle.std.proofs.lemmas.Bool.{true≢false, ltb-true, ltb-false, le-leb}
+use Rattle.std.proofs.lemmas.Bool.{and_from, and_parts, true≢false, ltb-true, ltb-false, le-leb}
 use Rattle.std.proofs.lemmas.List.Folds.{list_all-append}
 use Rattle.lp_spec_place.specs.Machines.{steps, steps-append, Stops}
 use Rattle.lp_text.specs.Texts.{with_text, place_of, text_at, Grown, Grown-with_text, Grown-refl, Grown-trans, Grown-KeepsNumbers, place_of-Some, has_text, is_some-place_of, place_of-push}
@@ -13,10 +13,10 @@ use Rattle.lp_liberty.specs.declared.mark.Mode.TheVariants as modes
 use Rattle.lp_liberty.specs.Grammar as grammar
 use Rattle.lp_liberty.specs.Grammar.{Token, Name, Sign, Body, spelling, Form, Limited, always, below_64}
 use Rattle.lp_liberty.specs.Meaning.{groups_in}
-use Rattle.lp_liberty.specs.Tokens.{Placed, tokens_of}
+use Rattle.lp_liberty.specs.Tokens.{Placed, bare, tokens_of}
 use Rattle.lp_liberty.specs.Machine as machine
-use Rattle.lp_liberty.specs.Machine.{Machine, Reading, Whole, Stopped, Deep, Long, is_deep_by, is_done_by, name_in, mark_in, numbered_as, stepped, taken_in, step_in, read_on, read_in}
-use Rattle.lp_liberty.specs.Denotes.{bare, are_short, index_in, KeepsLimits, LeavesForm, HasLongToken, HasDeepGroup}
+use Rattle.lp_liberty.specs.Machine.{Machine, Reading, Whole, Stopped, Deep, Long, is_deep_by, is_done_by, name_in, mark_in, numbered_as, stepped, taken_in, goes_to, head_mode, is_deep_token, is_deep_ahead, opens_group, long_stop, read_on, read_in}
+use Rattle.lp_liberty.specs.Denotes.{are_short, index_in, KeepsLimits, LeavesForm, HasLongToken, HasDeepGroup}
 use Rattle.lp_liberty.proofs.Zipper as zip
 use Rattle.lp_liberty.proofs.Zipper.{Frame, State, step, accepts_by, accepts}
 use Rattle.lp_liberty.proofs.Found.{statement_text, Good, GoodFrames, GoodStatement, HasRead, reads, spells, frames_text, state_text, accepted_good}
@@ -24,6 +24,8 @@ use Rattle.lp_liberty.proofs.Leaving.{leaves_at, goes_on}
 use Rattle.lp_liberty.proofs.Shown.{AllOpen, shown, numbers}
 use Rattle.lp_liberty.proofs.Simulation.{Both, Shows, ShowsStatement, Inside, name_same, mark_same}
 use Rattle.lp_liberty.proofs.Always.{always_none, no_name, deep_is, always_steps}
+use Rattle.lp_liberty.proofs.Heads.{taken_in_head}
+use Rattle.lp_liberty.proofs.TooDeep.{DeepAt, comes_first}
 
 -- ---- lists
 
@@ -97,6 +99,45 @@ done_same (modes.Args l) fs = refl
 done_same modes.Behind fs = refl
 done_same modes.Items fs = refl
 
+-- short tokens before a number are short before each lesser one
+short_less : (tokens : List Placed) (p q : ℕ) → p ≤ q → IsTrue (are_short (take q tokens)) → IsTrue (are_short (take p tokens))
+short_less tokens zero q less h = refl
+short_less [] (suc p) q less h = refl
+short_less (t ∷ tokens) (suc p) zero less h = absurd (omega arith)
+short_less (t ∷ tokens) (suc p) (suc q) less h =
+    let parts = and_parts (nat_le t.size 1048576) (are_short (take q tokens)) h in
+    and_from (nat_le t.size 1048576) (are_short (take p tokens)) parts.0 (short_less tokens p q (omega arith) parts.1)
+
+numbers_length : (fs : List Frame) → length (numbers fs) ≡ length fs
+numbers_length [] = refl
+numbers_length (f ∷ fs) = ap suc (numbers_length fs)
+
+not-true-false : (b : Bool) → not b ≡ true → b ≡ false
+not-true-false true e = absurd (true≢false (sym e))
+not-true-false false e = refl
+
+deep_token : (mode : Mode) (t : Token) → is_deep_token mode t ≡ true → (mode ≡ modes.Behind) × (t ≡ Sign marks.BraceOpen)
+deep_token mode (Name q w) e = absurd (true≢false (sym e))
+deep_token mode (Sign k) e = let d = deep_is mode k e in (d.0, ap Sign d.1)
+
+no_begin : (semi : Bool) (ts : List Token) → opens_group (modes.Begin semi) ts ≡ false
+no_begin semi [] = refl
+no_begin semi (Name q w ∷ ts) = refl
+no_begin semi (Sign k ∷ ts) = refl
+
+no_items : (ts : List Token) → opens_group modes.Items ts ≡ false
+no_items [] = refl
+no_items (Name q w ∷ ts) = refl
+no_items (Sign k ∷ ts) = refl
+
+-- in the head of a group the machine knows the place of its word
+head_at : (names : List (List ℕ)) (place : ℕ → ℕ) (fs : List Frame) (d : Body) (mode : Mode) (w : List ℕ) (held : List Token) (m : Machine) (ts : List Token) → ShowsStatement names place fs d mode w held m → opens_group mode ts ≡ true → m.head ≡ place (length (frames_text fs ++ spelling d))
+head_at names place fs d (modes.Begin semi) w held m ts s e = absurd (true≢false (sym e ∙ no_begin semi ts))
+head_at names place fs d modes.Named w held m ts s e = s.1
+head_at names place fs d (modes.Args l) w held m ts s e = s.1
+head_at names place fs d modes.Behind w held m ts s e = s.1
+head_at names place fs d modes.Items w held m ts s e = absurd (true≢false (sym e ∙ no_items ts))
+
 -- both readings go on, or both stop, for each later table
 abbrev BothFor : (ℕ → ℕ) → List (List ℕ) → Option State → Option Machine → Type 0
 BothFor place names r o = (final : List (List ℕ)) → Grown names final → Both (Shows final place) r o
@@ -167,6 +208,81 @@ module _ (text : List ℕ) where
           (sym all_short ∙ a.short, (spells below_64 bares z (ap (steps (step below_64) zip.start) (sym whole) ∙ a.taken) h, s.same.groups ∙ ap (λ fs. shown fs z.done) top.0))
       by false h s = stops_form k z (length text) a (ap are_short (take_none k all e) ∙ a.short) (subst (Stops (step always) accepts z) (sym no_more) h) (index_end (length text) k all e)
 
+  -- the tokens before the word of the statement are short
+  front_short : (k : ℕ) (z : State) → At k z → IsTrue (are_short (take (length (frames_text z.frames ++ spelling z.done)) all))
+  front_short k z a =
+      let front = frames_text z.frames ++ spelling z.done in
+      let rest = statement_text z.mode z.word z.held in
+      let size : length (take k bares) ≡ k = length-take-le k bares (within_bares k a.within) in
+      let parts : length front + length rest ≡ k = sym (length-append front rest) ∙ ap length (append_assoc (frames_text z.frames) (spelling z.done) rest ∙ (good k z a).1) ∙ size in
+      short_less all (length front) k (omega arith) a.short
+
+  -- the brace of a group that is too deep, where the tokens before its word are short
+  deep_brace : (k : ℕ) (z : State) → k ≤ length all → steps (step below_64) zip.start (take k bares) ≡ Some z → (rest : List Token) → drop k bares ≡ Sign marks.BraceOpen ∷ rest
+      → IsTrue (are_short (take (length (frames_text z.frames ++ spelling z.done)) all)) → z.mode ≡ modes.Behind → step below_64 z (Sign marks.BraceOpen) ≡ None → HasDeepGroup (length text) all (place (length (frames_text z.frames ++ spelling z.done)))
+  deep_brace k z within taken rest here short mode e =
+      let g = reads below_64 (take k bares) z taken in
+      let front = frames_text z.frames ++ spelling z.done in
+      let opening = Name false z.word ∷ (Sign marks.ParenOpen ∷ (z.held ++ Sign marks.ParenClose ∷ [])) in
+      let read : take k bares ≡ front ++ opening = sym g.1 ∙ ap (λ (x : Mode). frames_text z.frames ++ (spelling z.done ++ statement_text x z.word z.held)) mode ∙ sym (append_assoc (frames_text z.frames) (spelling z.done) opening) in
+      let args : IsTrue (grammar.are_args z.held) = subst (λ (x : Mode). GoodStatement z.frames z.done x z.held) mode g.0.3 in
+      let frame : Frame = record { before = z.done; word = z.word; args = z.held } in
+      let u = zip.at_begin (frame ∷ z.frames) grammar.End false in
+      let opened : step always z (Sign marks.BraceOpen) ≡ Some u = ap (λ (x : Mode). zip.step_by always z.frames z.done x z.word z.held (Sign marks.BraceOpen)) mode in
+      let more = take_one k bares (Sign marks.BraceOpen) rest here in
+      let run : steps (step always) zip.start (take (suc k) bares) ≡ Some u =
+      ap (steps (step always) zip.start) more ∙ steps-append (step always) zip.start (take k bares) (Sign marks.BraceOpen ∷ []) ∙ ap (λ o. option_and_then (λ v. steps (step always) v (Sign marks.BraceOpen ∷ [])) o) (always_steps zip.start z (take k bares) taken) ∙ ap (λ o. option_and_then (λ v. Some v) o) opened in
+      record {
+        number = k;
+        front = front;
+        short = short;
+        before = goes_on below_64 refl (take k bares) z taken;
+        word = z.word;
+        args = z.held;
+        are_args = args;
+        head = read;
+        brace = more;
+        goes_on = goes_on always refl (take (suc k) bares) u run;
+        leaves = leaves_at below_64 refl bares k z (within_bares k within) taken (subst (Stops (step below_64) accepts z) (sym here) e);
+        is = refl;
+      }
+
+  -- where the tokens ahead lead to the brace of a group, and there is no room for one
+  deep_on : (ts : List Token) (k : ℕ) (z : State) → k ≤ length all → steps (step below_64) zip.start (take k bares) ≡ Some z → drop k bares ≡ ts
+      → IsTrue (are_short (take (length (frames_text z.frames ++ spelling z.done)) all)) → below_64 (length z.frames) ≡ false → opens_group z.mode ts ≡ true → HasDeepGroup (length text) all (place (length (frames_text z.frames ++ spelling z.done)))
+  deep_on [] k z within taken here short full e = absurd (true≢false (sym e))
+  deep_on (t ∷ ts) k z within taken here short full e =
+      by (is_deep_token z.mode t) refl (head_mode z.mode t) refl e (λ u w r o. deep_on ts (suc k) u w r behind (o.0) (o.1) (o.2))
+    where
+      behind : drop (suc k) bares ≡ ts
+      behind = (let more : suc k ≡ k + 1 = omega arith in ap (λ n. drop n bares) more) ∙ sym (drop-drop 1 k bares) ∙ ap (drop 1) here
+
+      inside : suc k ≤ length all
+      inside = let w = within_more k bares t ts here in let same : length bares ≡ length all = length-map all (λ (p : Placed). p.token) in omega arith
+
+      Found : State → Type 0
+      Found u = HasDeepGroup (length text) all (place (length (frames_text u.frames ++ spelling u.done)))
+
+      by : (b : Bool) → is_deep_token z.mode t ≡ b → (o : Option Mode) → head_mode z.mode t ≡ o → (b || goes_to (λ next. opens_group next ts) (head_mode z.mode t)) ≡ true
+          → ((u : State) → suc k ≤ length all → steps (step below_64) zip.start (take (suc k) bares) ≡ Some u
+          → IsTrue (are_short (take (length (frames_text u.frames ++ spelling u.done)) all)) × (below_64 (length u.frames) ≡ false) × (opens_group u.mode ts ≡ true) → Found u) → Found z
+      by true is o h g more =
+          let brace = deep_token z.mode t is in
+          let none : step below_64 z (Sign marks.BraceOpen) ≡ None =
+          ap (λ (x : Mode). zip.step_by below_64 z.frames z.done x z.word z.held (Sign marks.BraceOpen)) brace.0
+          ∙ ap (λ (c : Bool). if c then Some (zip.at_begin (record { before = z.done; word = z.word; args = z.held } ∷ z.frames) grammar.End false) else None) full in
+          deep_brace k z within taken ts (here ∙ ap (λ x. x ∷ ts) brace.1) short brace.0 none
+      by false is None h g more = absurd (true≢false (sym (sym (ap (goes_to (λ next. opens_group next ts)) h) ∙ g)))
+      by false is (Some next) h g more =
+          let n = taken_in_head z.frames z.done z.mode z.word z.held t next h in
+          let u = zip.in_statement z.frames z.done next z.word n.0 in
+          let run : steps (step below_64) zip.start (take (suc k) bares) ≡ Some u =
+          ap (steps (step below_64) zip.start) (take_one k bares t ts here) ∙ steps-append (step below_64) zip.start (take k bares) (t ∷ []) ∙ ap (λ o. option_and_then (λ w. steps (step below_64) w (t ∷ [])) o) taken ∙ ap (λ o. option_and_then (λ w. Some w) o) n.1 in
+          more u inside run (short, full, sym (ap (goes_to (λ next. opens_group next ts)) h) ∙ g)
+
+  deep_at : (end index : ℕ) (d : HasDeepGroup end all index) → DeepAt bares d.number d.front
+  deep_at end index d = record { word = d.word; args = d.args; are_args = d.are_args; before = d.before; head = d.head; brace = d.brace; goes_on = d.goes_on; leaves = d.leaves }
+
   module _ (k : ℕ) (z : State) (a : At k z) (t : Placed) (rest : List Placed) (here : drop k all ≡ t ∷ rest) where
     here_bare : drop k bares ≡ t.token ∷ bare rest
     here_bare = drop_map (λ (x : Placed). x.token) k all ∙ ap bare here
@@ -180,8 +296,31 @@ module _ (text : List ℕ) where
         let size : length (take k bares) ≡ k = length-take-le k bares (within_bares k a.within) in
         (g.0, is_index ∙ ap place (sym size) ∙ ap (λ xs. place (length xs)) (sym g.1))
 
-    long_here : 1048576 < t.size → HasLongToken all t.at
-    long_here h = record { number = k; before = keeps k z a; token = t; after = rest; here = here; long = h; is = refl }
+    -- what is ahead of a token that is too long
+    long_here : (names : List (List ℕ)) (m : Machine) → Shows names place z m → 1048576 < t.size → Answers (long_stop m t.at (t.token ∷ bare rest))
+    long_here names m s h = by (is_deep_ahead m (t.token ∷ bare rest)) refl
+      where
+        room_same : nat_lt (length m.opened) 64 ≡ below_64 (length z.frames)
+        room_same = ap (λ n. nat_lt n 64) (ap length s.same.opened ∙ numbers_length z.frames)
+
+        ahead_same : is_deep_ahead m (t.token ∷ bare rest) ≡ (not (below_64 (length z.frames)) && opens_group z.mode (drop k bares))
+        ahead_same = (λ i. not (room_same i) && opens_group (s.mode i) (t.token ∷ bare rest)) ∙ ap (λ ts. not (below_64 (length z.frames)) && opens_group z.mode ts) (sym here_bare)
+
+        by : (c : Bool) → is_deep_ahead m (t.token ∷ bare rest) ≡ c → Answers (if c then Deep m.head else Long t.at)
+        by true e =
+            let parts = and_parts (not (below_64 (length z.frames))) (opens_group z.mode (drop k bares)) (sym ahead_same ∙ e) in
+            let head = head_at names place z.frames z.done z.mode z.word z.held m (drop k bares) s.statement parts.1 in
+            subst (HasDeepGroup (length text) all) (sym head) (deep_on (drop k bares) k z a.within a.taken refl (front_short k z a) (not-true-false (below_64 (length z.frames)) parts.0) parts.1)
+        by false e = record {
+          number = k;
+          before = keeps k z a;
+          token = t;
+          after = rest;
+          here = here;
+          long = h;
+          first = λ end index d. comes_first bares d.number d.front (deep_at end index d) k z (within_bares k a.within) a.taken (sym ahead_same ∙ e);
+          is = refl;
+        }
 
     module _ (short : t.size ≤ 1048576) where
       short_more : IsTrue (are_short (take (suc k) all))
@@ -200,31 +339,7 @@ module _ (text : List ℕ) where
       -- the brace of a group that is too deep
       deep_here : (head : ℕ) → z.mode ≡ modes.Behind → t.token ≡ Sign marks.BraceOpen → step below_64 z t.token ≡ None → head ≡ place (length (frames_text z.frames ++ spelling z.done)) → HasDeepGroup (length text) all head
       deep_here head mode brace e is =
-          let g = good k z a in
-          let front = frames_text z.frames ++ spelling z.done in
-          let opening = Name false z.word ∷ (Sign marks.ParenOpen ∷ (z.held ++ Sign marks.ParenClose ∷ [])) in
-          let read : take k bares ≡ front ++ opening = sym g.1 ∙ ap (λ (x : Mode). frames_text z.frames ++ (spelling z.done ++ statement_text x z.word z.held)) mode ∙ sym (append_assoc (frames_text z.frames) (spelling z.done) opening) in
-          let args : IsTrue (grammar.are_args z.held) = subst (λ (x : Mode). GoodStatement z.frames z.done x z.held) mode g.0.3 in
-          let frame : Frame = record { before = z.done; word = z.word; args = z.held } in
-          let u = zip.at_begin (frame ∷ z.frames) grammar.End false in
-          let opened : step always z t.token ≡ Some u = ap (step always z) brace ∙ ap (λ (x : Mode). zip.step_by always z.frames z.done x z.word z.held (Sign marks.BraceOpen)) mode in
-          let more = take_one k bares t.token (bare rest) here_bare in
-          let run : steps (step always) zip.start (take (suc k) bares) ≡ Some u =
-          ap (steps (step always) zip.start) more ∙ steps-append (step always) zip.start (take k bares) (t.token ∷ []) ∙ ap (λ o. option_and_then (λ v. steps (step always) v (t.token ∷ [])) o) (unlimited k z a) ∙ ap (λ o. option_and_then (λ v. Some v) o) opened in
-          record {
-            number = k;
-            before = keeps k z a;
-            short = short_more;
-            front = front;
-            word = z.word;
-            args = z.held;
-            are_args = args;
-            head = read;
-            brace = more ∙ ap (λ x. take k bares ++ x ∷ []) brace;
-            goes_on = goes_on always refl (take (suc k) bares) u run;
-            leaves = leaves_at below_64 refl bares k z (within_bares k a.within) a.taken (subst (Stops (step below_64) accepts z) (sym here_bare) e);
-            is = is;
-          }
+          subst (HasDeepGroup (length text) all) (sym is) (deep_brace k z a.within a.taken (bare rest) (here_bare ∙ ap (λ x. x ∷ bare rest) brace) (front_short k z a) mode (ap (step below_64 z) (sym brace) ∙ e))
 
   -- from a token on
   abbrev Read : List Placed → Type 0
@@ -238,10 +353,10 @@ module _ (text : List ℕ) where
   go_on k z new stop t rest more behind (Some u) e None both taken stops = absurd (both new (Grown-refl new))
   go_on k z new stop t rest more behind None e (Some n) both taken stops = absurd (both new (Grown-refl new))
 
-  by_size : (c : Bool) (t : Placed) (rest : List Placed) (s : machine.Step) → (c ≡ true → Answers (Long t.at)) → (c ≡ false → Answers (read_on (λ table n. read_in (length text) table n rest) s))
-      → Answers (read_on (λ table n. read_in (length text) table n rest) (if c then machine.Refused (Long t.at) else s))
-  by_size true t rest s long short = long refl
-  by_size false t rest s long short = short refl
+  by_size : (c : Bool) (stop : Reading) (rest : List Placed) (s : machine.Step) → (c ≡ true → Answers stop) → (c ≡ false → Answers (read_on (λ table n. read_in (length text) table n rest) s))
+      → Answers (read_on (λ table n. read_in (length text) table n rest) (if c then machine.Refused stop else s))
+  by_size true stop rest s long short = long refl
+  by_size false stop rest s long short = short refl
 
   behind_one : (k : ℕ) (t : Placed) (rest : List Placed) → drop k all ≡ t ∷ rest → drop (suc k) all ≡ rest
   behind_one k t rest e = (let more : suc k ≡ k + 1 = omega arith in ap (λ n. drop n all) more) ∙ sym (drop-drop 1 k all) ∙ ap (drop 1) e
@@ -277,7 +392,7 @@ module _ (text : List ℕ) where
   reading : (rest : List Placed) → Read rest
   reading [] k z names m a e both = at_end k z names m a e both
   reading (t ∷ rest) k z names m a e both =
-      by_size (nat_lt 1048576 t.size) t rest (taken_in names m t.at t.token) (λ h. long_here k z a t rest e (ltb-true 1048576 t.size h))
+      by_size (nat_lt 1048576 t.size) (long_stop m t.at (t.token ∷ bare rest)) rest (taken_in names m t.at t.token) (λ h. long_here k z a t rest e names m (both names (Grown-refl names)) (ltb-true 1048576 t.size h))
       (λ h. one_token k z names m a t rest e (ltb-false 1048576 t.size h) both (reading rest) t.token refl)
 
   pub reading_answers : (names : List (List ℕ)) → Answers (read_in (length text) names machine.start all)

@@ -1,5 +1,5 @@
 -- Reading goes on behind a token as the text does.
-use Rattle.std.proofs.Common.{◌≡◌, ℕ, suc, ◌+◌, Bool, true, false, List, [], ◌∷◌, length, drop, Option, Some, None, refl, sym, ap, ◌∙◌, subst}
+use Rattle.std.proofs.Common.{◌≡◌, ℕ, zero, suc, ◌+◌, Bool, true, false, List, [], ◌∷◌, length, drop, Option, Some, None, refl, sym, ap, ◌∙◌, subst}
 use Rattle.std.specs.Prelude.{if◌then◌else◌, nat_lt, IfSome}
 use Rattle.lp_text.specs.declared.names.NameId.{NameId}
 use Rattle.lp_text.specs.Texts.{with_text}
@@ -17,9 +17,9 @@ use Rattle.lp_liberty.specs.declared.run.Stop.{Stop}
 use Rattle.lp_liberty.specs.declared.run.Stop.TheVariants as stops
 use Rattle.lp_liberty.specs.Outcome.{IsStop, RefusedBy}
 use Rattle.lp_liberty.specs.Grammar.{Token, Name, Sign}
-use Rattle.lp_liberty.specs.Lexing.{name_of, lexed_at}
-use Rattle.lp_liberty.specs.Tokens.{Placed, between, behind, placed, listed, token_of, tokens_from}
-use Rattle.lp_liberty.specs.Machine.{Machine, context_of, ended, name_by, name_in, mark_by, mark_in, shut_by, begin_mark, is_filled, opened_in, Taken, Refused, Reading, Stopped, Deep, Long, stepped, is_deep_by, numbered_as, taken_in, step_in, step_at, read_on, read_in, finished}
+use Rattle.lp_liberty.specs.Lexing.{lexed_at}
+use Rattle.lp_liberty.specs.Tokens.{Placed, bare, behind, placed, listed, token_of, tokens_from}
+use Rattle.lp_liberty.specs.Machine.{Machine, context_of, ended, name_by, name_in, mark_by, mark_in, shut_by, begin_mark, is_filled, opened_in, Taken, Refused, Reading, Stopped, Deep, Long, stepped, is_deep_by, numbered_as, taken_in, long_stop, stop_ahead, step_in, step_at, read_on, read_in, finished}
 
 -- where the machine goes on, the next token has the form that it has behind this one
 abbrev pub Follows : Mode → Token → Machine → Type 0
@@ -117,8 +117,8 @@ mark_context modes.Items marks.LineEnd m same = refl
 mark_context modes.Items marks.Broken m same = tt
 
 -- a step that is taken leads to the form of the next token
-pub step_context : (names new : List (List ℕ)) (m n : Machine) (t : Placed) → step_in names m t ≡ Taken new n → Follows m.mode t.token n
-step_context names new m n t e = by (nat_lt 1048576 t.size) e
+pub step_context : (ahead : Reading) (names new : List (List ℕ)) (m n : Machine) (t : Placed) → step_in ahead names m t ≡ Taken new n → Follows m.mode t.token n
+step_context ahead names new m n t e = by (nat_lt 1048576 t.size) e
   where
     of : (P : Machine → Type 0) (stop : Reading) (table : List (List ℕ)) (o : Option Machine) → IfSome o P → stepped stop table o ≡ Taken new n → P n
     of P stop table None h e = absurd cc
@@ -128,13 +128,29 @@ step_context names new m n t e = by (nat_lt 1048576 t.size) e
     token (Name quoted w) at e = of (Follows m.mode (Name quoted w)) (Stopped at) (with_text names w) (name_in quoted (numbered_as (with_text names w) w) at m) (name_context m.mode quoted w (numbered_as (with_text names w) w) at m) e
     token (Sign k) at e = of (Follows m.mode (Sign k)) (if is_deep_by m.mode k then Deep m.head else Stopped at) names (mark_in k m) (mark_context m.mode k m refl) e
 
-    by : (c : Bool) → (if c then Refused (Long t.at) else taken_in names m t.at t.token) ≡ Taken new n → Follows m.mode t.token n
+    by : (c : Bool) → (if c then Refused ahead else taken_in names m t.at t.token) ≡ Taken new n → Follows m.mode t.token n
     by true e = absurd cc
     by false e = token t.token t.at e
 
 -- ---- one token of a text
 
+-- tokens are the same wherever their text stands
+bare_at : (k : ℕ) (c : Context) (a b : ℕ) (text : List ℕ) → bare (tokens_from k c a text) ≡ bare (tokens_from k c b text)
+bare_at zero c a b text = refl
+bare_at (suc k) c a b text = by (token_of text l l.sort) (λ d x y. bare_at k d x y (drop (l.start + l.size) text))
+  where
+    l : Lexed
+    l = lexed_at c text
+
+    by : (o : Option Token) → ((d : Context) (x y : ℕ) → bare (tokens_from k d x (drop (l.start + l.size) text)) ≡ bare (tokens_from k d y (drop (l.start + l.size) text)))
+        → bare (listed (λ t. placed a l t ∷ tokens_from k (behind c t) (a + (l.start + l.size)) (drop (l.start + l.size) text)) o) ≡ bare (listed (λ t. placed b l t ∷ tokens_from k (behind c t) (b + (l.start + l.size)) (drop (l.start + l.size) text)) o)
+    by None more = refl
+    by (Some t) more = ap (λ ts. t ∷ ts) (more (behind c t) (a + (l.start + l.size)) (b + (l.start + l.size)))
+
 module _ (size : ℕ) (names : List (List ℕ)) (m : Machine) (k at : ℕ) (rest : List ℕ) (l : Lexed) where
+  abbrev ahead : Reading
+  ahead = stop_ahead (suc k) rest m (at + l.start)
+
   -- the tokens behind this one, where it ends in this context
   abbrev more_tokens : Context → List Placed
   more_tokens c = tokens_from k c (at + (l.start + l.size)) (drop (l.start + l.size) rest)
@@ -145,31 +161,43 @@ module _ (size : ℕ) (names : List (List ℕ)) (m : Machine) (k at : ℕ) (rest
   pub read_end : (s : Sort) → s ≡ sorts.End → read_in size names m (with_token (token_of rest l s)) ≡ finished size names m
   read_end s e = ap (λ x. read_in size names m (with_token (token_of rest l x))) e
 
-  refused_token : (r : Reading) (t : Token) → step_in names m (placed at l t) ≡ Refused r → read_in size names m (with_token (Some t)) ≡ r
-  refused_token r t e = ap (read_on (λ new n. read_in size new n (more_tokens (behind (context_of m.mode) t)))) e
+  -- the tokens from this one on are those that stand ahead
+  same_ahead : (t : Token) → l ≡ lexed_at (context_of m.mode) rest → token_of rest l l.sort ≡ Some t → ahead ≡ long_stop m (at + l.start) (t ∷ bare (more_tokens (behind (context_of m.mode) t)))
+  same_ahead t lexed is =
+      let c = context_of m.mode in
+      let tokens : bare (tokens_from (suc k) c 0 rest) ≡ t ∷ bare (more_tokens (behind c t)) =
+      ap (λ (x : Lexed). bare (listed (λ u. placed 0 x u ∷ tokens_from k (behind c u) (0 + (x.start + x.size)) (drop (x.start + x.size) rest)) (token_of rest x x.sort))) (sym lexed)
+      ∙ ap (λ o. bare (listed (λ u. placed 0 l u ∷ tokens_from k (behind c u) (0 + (l.start + l.size)) (drop (l.start + l.size) rest)) o)) is
+      ∙ ap (λ ts. t ∷ ts) (bare_at k (behind c t) (0 + (l.start + l.size)) (at + (l.start + l.size)) (drop (l.start + l.size) rest)) in
+      ap (long_stop m (at + l.start)) tokens
 
-  refused_sort : (r : Reading) (s : Sort) → (s ≡ sorts.End → ⊥) → step_at names m (at + l.start) l.size (token_of rest l s) ≡ Refused r → read_in size names m (with_token (token_of rest l s)) ≡ r
-  refused_sort r sorts.End more e = absurd (more refl)
-  refused_sort r sorts.Word more e = refused_token r (Name false (name_of (between rest l.from l.«to»))) e
-  refused_sort r sorts.Quoted more e = refused_token r (Name true (name_of (between rest l.from l.«to»))) e
-  refused_sort r (sorts.Mark k) more e = refused_token r (Sign k) e
+  refused_token : (r : Reading) (t : Token) → l ≡ lexed_at (context_of m.mode) rest → token_of rest l l.sort ≡ Some t → step_in ahead names m (placed at l t) ≡ Refused r → read_in size names m (with_token (Some t)) ≡ r
+  refused_token r t lexed is e =
+      ap (λ x. read_on (λ new n. read_in size new n (more_tokens (behind (context_of m.mode) t))) (step_in x names m (placed at l t))) (sym (same_ahead t lexed is))
+      ∙ ap (read_on (λ new n. read_in size new n (more_tokens (behind (context_of m.mode) t)))) e
 
-  pub read_refused : (stop : Stop) (s : Sort) → (s ≡ sorts.End → ⊥) → RefusedBy stop (step_at names m (at + l.start) l.size (token_of rest l s)) → IsStop stop (read_in size names m (with_token (token_of rest l s)))
-  read_refused (stops.Syntax place) s more e = refused_sort (Stopped place) s more e
-  read_refused (stops.Deep place) s more e = refused_sort (Deep place) s more e
-  read_refused (stops.Long place) s more e = refused_sort (Long place) s more e
-  read_refused stops.NoMemory s more e = tt
+  refused_sort : (r : Reading) (o : Option Token) → l ≡ lexed_at (context_of m.mode) rest → token_of rest l l.sort ≡ o → (o ≡ None → ⊥) → step_at ahead names m (at + l.start) l.size o ≡ Refused r → read_in size names m (with_token o) ≡ r
+  refused_sort r None lexed is more e = absurd (more refl)
+  refused_sort r (Some t) lexed is more e = refused_token r t lexed is e
 
-  read_token : (new : List (List ℕ)) (n : Machine) (t : Token) → step_in names m (placed at l t) ≡ Taken new n → read_in size names m (with_token (Some t)) ≡ read_in size new n (more_tokens (context_of n.mode))
-  read_token new n t e =
-      ap (read_on (λ table u. read_in size table u (more_tokens (behind (context_of m.mode) t)))) e
-      ∙ ap (λ c. read_in size new n (more_tokens c)) (sym (step_context names new m n (placed at l t) e))
+  pub read_refused : (stop : Stop) → l ≡ lexed_at (context_of m.mode) rest → (token_of rest l l.sort ≡ None → ⊥) → RefusedBy stop (step_at ahead names m (at + l.start) l.size (token_of rest l l.sort)) → IsStop stop (read_in size names m (with_token (token_of rest l l.sort)))
+  read_refused (stops.Syntax place) lexed more e = refused_sort (Stopped place) (token_of rest l l.sort) lexed refl more e
+  read_refused (stops.Deep place) lexed more e = refused_sort (Deep place) (token_of rest l l.sort) lexed refl more e
+  read_refused (stops.Long place) lexed more e = refused_sort (Long place) (token_of rest l l.sort) lexed refl more e
+  read_refused stops.NoMemory lexed more e = tt
 
-  pub read_taken : (new : List (List ℕ)) (n : Machine) (s : Sort) → (s ≡ sorts.End → ⊥) → step_at names m (at + l.start) l.size (token_of rest l s) ≡ Taken new n → read_in size names m (with_token (token_of rest l s)) ≡ read_in size new n (more_tokens (context_of n.mode))
-  read_taken new n sorts.End more e = absurd (more refl)
-  read_taken new n sorts.Word more e = read_token new n (Name false (name_of (between rest l.from l.«to»))) e
-  read_taken new n sorts.Quoted more e = read_token new n (Name true (name_of (between rest l.from l.«to»))) e
-  read_taken new n (sorts.Mark k) more e = read_token new n (Sign k) e
+  read_token : (new : List (List ℕ)) (n : Machine) (t : Token) → l ≡ lexed_at (context_of m.mode) rest → token_of rest l l.sort ≡ Some t → step_in ahead names m (placed at l t) ≡ Taken new n → read_in size names m (with_token (Some t)) ≡ read_in size new n (more_tokens (context_of n.mode))
+  read_token new n t lexed is e =
+      ap (λ x. read_on (λ table u. read_in size table u (more_tokens (behind (context_of m.mode) t))) (step_in x names m (placed at l t))) (sym (same_ahead t lexed is))
+      ∙ ap (read_on (λ table u. read_in size table u (more_tokens (behind (context_of m.mode) t)))) e
+      ∙ ap (λ c. read_in size new n (more_tokens c)) (sym (step_context ahead names new m n (placed at l t) e))
+
+  taken_sort : (new : List (List ℕ)) (n : Machine) (o : Option Token) → l ≡ lexed_at (context_of m.mode) rest → token_of rest l l.sort ≡ o → (o ≡ None → ⊥) → step_at ahead names m (at + l.start) l.size o ≡ Taken new n → read_in size names m (with_token o) ≡ read_in size new n (more_tokens (context_of n.mode))
+  taken_sort new n None lexed is more e = absurd (more refl)
+  taken_sort new n (Some t) lexed is more e = read_token new n t lexed is e
+
+  pub read_taken : (new : List (List ℕ)) (n : Machine) → l ≡ lexed_at (context_of m.mode) rest → (token_of rest l l.sort ≡ None → ⊥) → step_at ahead names m (at + l.start) l.size (token_of rest l l.sort) ≡ Taken new n → read_in size names m (with_token (token_of rest l l.sort)) ≡ read_in size new n (more_tokens (context_of n.mode))
+  read_taken new n lexed more e = taken_sort new n (token_of rest l l.sort) lexed refl more e
 
 -- the tokens from here on
 pub unfolded : (size : ℕ) (names : List (List ℕ)) (m : Machine) (at k j : ℕ) (text : List ℕ) → k ≡ suc j → (c : Context) → c ≡ context_of m.mode → (rest : List ℕ) → rest ≡ drop at text → (l : Lexed) → l ≡ lexed_at c rest

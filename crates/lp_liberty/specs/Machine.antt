@@ -1,9 +1,10 @@
 -- The list machine that the reader is: numbers for names, and the groups so far.
-use Rattle.std.specs.Prelude.{ℕ, zero, suc, Bool, true, false, nat_lt, List, [], ◌∷◌, ◌++◌, length, Option, Some, None, if◌then◌else◌, unwrap_or}
+use Rattle.std.specs.Prelude.{ℕ, zero, suc, Bool, true, false, not, ◌&&◌, ◌||◌, nat_lt, List, [], ◌∷◌, ◌++◌, length, Option, Some, None, if◌then◌else◌, unwrap_or}
 use Rattle.lp_text.specs.declared.names.NameId.{NameId}
 use Rattle.lp_text.specs.Texts.{with_text, place_of}
 use Rattle.lp_model.specs.declared.groups.Attr.{Attr}
 use Rattle.lp_model.specs.declared.groups.Group.{Group}
+use Rattle.lp_liberty.specs.declared.run.TheConstants.{LONGEST}
 use Rattle.lp_liberty.specs.declared.mark.Mark.{Mark}
 use Rattle.lp_liberty.specs.declared.mark.Mark.TheVariants as marks
 use Rattle.lp_liberty.specs.declared.mark.Context.{Context}
@@ -12,8 +13,9 @@ use Rattle.lp_liberty.specs.declared.mark.Last.{Last}
 use Rattle.lp_liberty.specs.declared.mark.Last.TheVariants as lasts
 use Rattle.lp_liberty.specs.declared.mark.Mode.{Mode}
 use Rattle.lp_liberty.specs.declared.mark.Mode.TheVariants as modes
+use Rattle.lp_liberty.specs.declared.lexed.Lexed.{Lexed}
 use Rattle.lp_liberty.specs.Grammar.{Token, Name, Sign}
-use Rattle.lp_liberty.specs.Tokens.{Placed}
+use Rattle.lp_liberty.specs.Tokens.{Placed, bare, token_of, tokens_from}
 
 -- the groups so far, the numbers of the open ones with the innermost first, and the statement so far: its word, its
 -- names, and the place of the word
@@ -136,6 +138,49 @@ abbrev pub is_deep_by : Mode → Mark → Bool
 is_deep_by modes.Behind marks.BraceOpen = true
 is_deep_by mode k = false
 
+-- ---- the head of a group
+
+abbrev pub named_head : Token → Option Mode
+named_head (Sign marks.ParenOpen) = Some (modes.Args lasts.Nothing)
+named_head t = None
+
+abbrev pub args_head_mark : Last → Mark → Option Mode
+args_head_mark lasts.Name marks.Comma = Some (modes.Args lasts.Comma)
+args_head_mark lasts.Name marks.ParenClose = Some modes.Behind
+args_head_mark lasts.Nothing marks.ParenClose = Some modes.Behind
+args_head_mark last k = None
+
+abbrev pub args_head : Last → Token → Option Mode
+args_head last (Name quoted w) = Some (modes.Args lasts.Name)
+args_head last (Sign k) = args_head_mark last k
+
+-- the mode behind a token between the word of a group and its opening brace
+abbrev pub head_mode : Mode → Token → Option Mode
+head_mode modes.Named t = named_head t
+head_mode (modes.Args last) t = args_head last t
+head_mode mode t = None
+
+abbrev pub is_deep_token : Mode → Token → Bool
+is_deep_token mode (Name quoted w) = false
+is_deep_token mode (Sign k) = is_deep_by mode k
+
+abbrev pub is_deep_if_any : Mode → Option Token → Bool
+is_deep_if_any mode None = false
+is_deep_if_any mode (Some t) = is_deep_token mode t
+
+abbrev pub goes_to : (Mode → Bool) → Option Mode → Bool
+goes_to more None = false
+goes_to more (Some mode) = more mode
+
+-- whether the statement turns out to be a group: its arguments end, and an opening brace stands behind them
+abbrev pub opens_group : Mode → List Token → Bool
+opens_group mode [] = false
+opens_group mode (t ∷ tokens) = is_deep_token mode t || goes_to (λ next. opens_group next tokens) (head_mode mode t)
+
+-- whether the statement turns out to be a group that is too deep
+abbrev pub is_deep_ahead : Machine → List Token → Bool
+is_deep_ahead m tokens = not (nat_lt (length m.opened) 64) && opens_group m.mode tokens
+
 -- ---- whole texts
 
 abbrev pub context_of : Mode → Context
@@ -170,12 +215,20 @@ stepped stop names (Some m) = Taken names m
 abbrev pub numbered_as : List (List ℕ) → List ℕ → NameId
 numbered_as names text = record { 0 = unwrap_or (place_of text names) 0 }
 
+-- the number of a name once it stands in the table
+abbrev pub number_in : List (List ℕ) → List ℕ → NameId
+number_in names text = numbered_as (with_text names text) text
+
 abbrev pub taken_in : List (List ℕ) → Machine → ℕ → Token → Step
-taken_in names m at (Name quoted w) = stepped (Stopped at) (with_text names w) (name_in quoted (numbered_as (with_text names w) w) at m)
+taken_in names m at (Name quoted w) = stepped (Stopped at) (with_text names w) (name_in quoted (number_in names w) at m)
 taken_in names m at (Sign k) = stepped (if is_deep_by m.mode k then Deep m.head else Stopped at) names (mark_in k m)
 
-abbrev pub step_in : List (List ℕ) → Machine → Placed → Step
-step_in names m t = if nat_lt 1048576 t.size then Refused (Long t.at) else taken_in names m t.at t.token
+-- where a text stops at a token that is too long: at the word of the group whose head it stands in, where that is too deep, else at the token
+abbrev pub long_stop : Machine → ℕ → List Token → Reading
+long_stop m at tokens = if is_deep_ahead m tokens then Deep m.head else Long at
+
+abbrev pub step_in : Reading → List (List ℕ) → Machine → Placed → Step
+step_in stop names m t = if nat_lt LONGEST t.size then Refused stop else taken_in names m t.at t.token
 
 abbrev pub read_on : (List (List ℕ) → Machine → Reading) → Step → Reading
 read_on more (Taken names m) = more names m
@@ -187,9 +240,16 @@ finished size names m = if is_done_by m.mode m.opened then Whole names m.groups 
 -- from some tokens on, in a text of this many bytes
 abbrev pub read_in : ℕ → List (List ℕ) → Machine → List Placed → Reading
 read_in size names m [] = finished size names m
-read_in size names m (t ∷ tokens) = read_on (λ new n. read_in size new n tokens) (step_in names m t)
+read_in size names m (t ∷ tokens) = read_on (λ new n. read_in size new n tokens) (step_in (long_stop m t.at (t.token ∷ bare tokens)) names m t)
 
 -- the next token is taken, if there is one
-abbrev pub step_at : List (List ℕ) → Machine → ℕ → ℕ → Option Token → Step
-step_at names m at size None = if nat_lt 1048576 size then Refused (Long at) else Taken names m
-step_at names m at size (Some t) = step_in names m (record { at = at; size = size; token = t })
+abbrev pub step_at : Reading → List (List ℕ) → Machine → ℕ → ℕ → Option Token → Step
+step_at stop names m at size None = if nat_lt LONGEST size then Refused stop else Taken names m
+step_at stop names m at size (Some t) = step_in stop names m (record { at = at; size = size; token = t })
+
+-- where the text stops if its next token is too long, among at most this many
+abbrev pub stop_ahead : ℕ → List ℕ → Machine → ℕ → Reading
+stop_ahead left text m at = long_stop m at (bare (tokens_from left (context_of m.mode) 0 text))
+
+abbrev pub next_step : ℕ → List ℕ → List (List ℕ) → Machine → Lexed → ℕ → Step
+next_step left text names m l at = step_at (stop_ahead left text m at) names m at l.size (token_of text l l.sort)

@@ -1,5 +1,5 @@
 -- The tokens of a whole text, each with its place (own rule).
-use Rattle.std.specs.Prelude.{ℕ, zero, suc, ◌+◌, ◌-◌, true, false, List, [], ◌∷◌, length, take, drop, Option, Some, None}
+use Rattle.std.specs.Prelude.{ℕ, zero, suc, ◌+◌, ◌-◌, true, false, List, [], ◌∷◌, length, map, take, drop, Option, Some, None}
 use Rattle.lp_liberty.specs.declared.mark.Mark.TheVariants as marks
 use Rattle.lp_liberty.specs.declared.mark.Sort.{Sort}
 use Rattle.lp_liberty.specs.declared.mark.Sort.TheVariants as sorts
@@ -14,6 +14,9 @@ pub record Placed : Type 0 where
   pub at : ℕ
   pub size : ℕ
   pub token : Token
+
+abbrev pub bare : List Placed → List Token
+bare tokens = map (λ (t : Placed). t.token) tokens
 
 -- arguments stand in parentheses behind a word, items behind a colon up to a semicolon, a line end or a closing brace
 abbrev pub behind_statement : Token → Context

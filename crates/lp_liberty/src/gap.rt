@@ -4,7 +4,7 @@ ghost use Rattle.lp_liberty.specs.Lexing.{begins_with, gap_start, gap_step, is_b
 use crate::mark::Gap;
 
 /// What stands before a token.
-#[derive(Clone, Copy, Debug)]
+#[derive(Clone, Copy)]
 pub(crate) struct Skipped {
     /// Its bytes.
     pub size: usize,

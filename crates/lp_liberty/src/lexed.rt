@@ -1,4 +1,5 @@
 ghost use Rattle.std.specs.Prelude.{◌≡◌, ◌+◌, ◌≤◌, length, drop};
+ghost use Rattle.lp_text.specs.declared.shelf.TheConstants.{LIMIT};
 ghost use Rattle.lp_liberty.specs.Lexing.{beginning, is_args, is_end, is_glued, is_items, lexed_at, mark_of, quoted_at, word_at};
 
 use crate::gap::skip;
@@ -6,7 +7,7 @@ use crate::mark::{Context, Mark, Sort};
 use crate::runs::{is_word, string_end, word_end};
 
 /// The next token of a text.
-#[derive(Clone, Copy, Debug)]
+#[derive(Clone, Copy)]
 pub(crate) struct Lexed {
     /// The bytes before it.
     pub start: usize,
@@ -80,7 +81,7 @@ impl Context {
 }
 
 fn word_at(context: Context, gap: bool, start: usize, rest: &[u8]) -> Lexed
-    requires { start + length rest.now ≤ 67108864 }
+    requires { start + length rest.now ≤ LIMIT }
     ensures value { result ≡ word_at context gap start rest.now }
     ensures within { result.start + result.size ≤ start + length rest.now }
     ensures order { result.from ≤ result.to }
@@ -102,7 +103,7 @@ fn word_at(context: Context, gap: bool, start: usize, rest: &[u8]) -> Lexed
 }
 
 fn quoted_at(context: Context, gap: bool, start: usize, rest: &[u8]) -> Lexed
-    requires { start + 1 + length rest.now ≤ 67108864 }
+    requires { start + 1 + length rest.now ≤ LIMIT }
     ensures value { result ≡ quoted_at context gap start rest.now }
     ensures within { result.start + result.size ≤ start + 1 + length rest.now }
     ensures order { result.from ≤ result.to }
@@ -128,7 +129,7 @@ fn quoted_at(context: Context, gap: bool, start: usize, rest: &[u8]) -> Lexed
 
 /// The token that begins right at the front of a text, of which `start` bytes are behind.
 fn beginning(context: Context, gap: bool, start: usize, rest: &[u8]) -> Lexed
-    requires { start + length rest.now ≤ 67108864 }
+    requires { start + length rest.now ≤ LIMIT }
     ensures value { result ≡ beginning context gap start rest.now }
     ensures within { result.start + result.size ≤ start + length rest.now }
     ensures order { result.from ≤ result.to }
@@ -162,7 +163,7 @@ fn beginning(context: Context, gap: bool, start: usize, rest: &[u8]) -> Lexed
 
 /// The next token of a text.
 pub(crate) fn lexed_at(context: Context, text: &[u8]) -> Lexed
-    requires { length text.now ≤ 67108864 }
+    requires { length text.now ≤ LIMIT }
     ensures value { result ≡ lexed_at context text.now }
     ensures within { result.start + result.size ≤ length text.now }
     ensures order { result.from ≤ result.to }

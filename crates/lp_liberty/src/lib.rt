@@ -1,6 +1,7 @@
 //! Reads a Liberty text as its groups, or finds the place at which it is refused.
 #![tactic(auto)]
 
+mod ahead;
 mod decode;
 mod gap;
 mod laws;

@@ -1,5 +1,8 @@
+ghost use Rattle.std.specs.Prelude.{◌≡◌};
+ghost use Rattle.lp_liberty.specs.Machine.{context_of, is_deep_by};
+
 /// A token that is no name.
-#[derive(Clone, Copy, Debug, PartialEq, Eq)]
+#[derive(Clone, Copy)]
 pub(crate) enum Mark {
     /// `(`
     ParenOpen,
@@ -22,7 +25,7 @@ pub(crate) enum Mark {
 }
 
 /// What a token is.
-#[derive(Clone, Copy, Debug, PartialEq, Eq)]
+#[derive(Clone, Copy)]
 pub(crate) enum Sort {
     /// A word.
     Word,
@@ -35,7 +38,7 @@ pub(crate) enum Sort {
 }
 
 /// Where a token stands, as far as its form depends on it.
-#[derive(Clone, Copy, Debug, PartialEq, Eq)]
+#[derive(Clone, Copy)]
 pub(crate) enum Context {
     /// Outside arguments and items.
     Statement,
@@ -48,7 +51,7 @@ pub(crate) enum Context {
 }
 
 /// Where a byte between tokens stands.
-#[derive(Clone, Copy, Debug, PartialEq, Eq)]
+#[derive(Clone, Copy)]
 pub(crate) enum Gap {
     /// Outside comments: whether something was met that separates names.
     Plain(bool),
@@ -63,7 +66,7 @@ pub(crate) enum Gap {
 }
 
 /// What was read last among arguments.
-#[derive(Clone, Copy, Debug, PartialEq, Eq)]
+#[derive(Clone, Copy)]
 pub(crate) enum Last {
     /// The opening parenthesis.
     Nothing,
@@ -74,7 +77,7 @@ pub(crate) enum Last {
 }
 
 /// What a reader has read of the current statement.
-#[derive(Clone, Copy, Debug, PartialEq, Eq)]
+#[derive(Clone, Copy)]
 pub(crate) enum Mode {
     /// Nothing: whether a semicolon may stand here.
     Begin(bool),
@@ -86,4 +89,28 @@ pub(crate) enum Mode {
     Behind,
     /// Items of a simple attribute.
     Items,
+}
+
+impl Mode {
+    /// The form of the next token.
+    pub(crate) fn context(self) -> Context
+        ensures { result ≡ context_of self }
+    {
+        match self {
+            Mode::Args(Last::Name) => Context::BehindArg,
+            Mode::Args(_) => Context::Args,
+            Mode::Items => Context::Items,
+            Mode::Begin(_) | Mode::Named | Mode::Behind => Context::Statement,
+        }
+    }
+
+    /// Whether a mark is the opening brace of a group.
+    pub(crate) fn is_deep(self, mark: Mark) -> bool
+        ensures { result ≡ is_deep_by self mark }
+    {
+        match (self, mark) {
+            (Mode::Behind, Mark::BraceOpen) => true,
+            _ => false,
+        }
+    }
 }

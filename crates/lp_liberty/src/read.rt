@@ -10,16 +10,13 @@ ghost use Rattle.lp_liberty.specs.Stops.{StopsAt, refusal_by};
 
 use crate::run::{Stop, run};
 use lp_model::{Group, Groups, LibraryFault, Refusal};
-use lp_text::{Names, Place};
+use lp_text::{LIMIT, Names, Place};
 use sqlite_items::Items;
 use std::alloc::Global;
 
-/// The most bytes of a text.
-const LARGEST: usize = 67_108_864;
-
 /// The groups of a text, or where it is refused.
 fn groups_of(alloc: Global, names: &mut Names, text: &[u8]) -> Result<Items<Group>, Stop>
-    requires small { length text.now ≤ 67108864 }
+    requires small { length text.now ≤ LIMIT }
     requires room { length names.old ≤ 3000000000 }
     ensures ok { IfOk result (λ groups. Denotes text.now (map (group_view names.new) groups)) }
     ensures numbers { IfOk result (λ groups. numbers_below (length names.new) (flat_map group_numbers groups) ≡ true) }
@@ -32,7 +29,7 @@ fn groups_of(alloc: Global, names: &mut Names, text: &[u8]) -> Result<Items<Grou
 
 /// The refusal of a text that is not too long.
 fn refusal_of(file: u32, text: &[u8], stop: Stop) -> Refusal
-    requires small { length text.now ≤ 67108864 }
+    requires small { length text.now ≤ LIMIT }
     requires stopped { StopsAt text.now stop }
     ensures { result ≡ refusal_by file text.now stop }
 {
@@ -57,7 +54,8 @@ fn refusal_of(file: u32, text: &[u8], stop: Stop) -> Refusal
 /// # Errors
 ///
 /// `Limit` (F02) for a text of more than 67,108,864 bytes, at its first byte; for a group within 64 others, at its
-/// word; for a token of more than 1,048,576 bytes, at its first byte. `Syntax` (F01) at the first token that no text of
+/// word; for a token of more than 1,048,576 bytes, at its first byte, but for one in the head of such a group, whose
+/// word comes first. `Syntax` (F01) at the first token that no text of
 /// the form has after the same ones before it, or one past the last byte of a text that ends first. And where memory is
 /// refused. The table has grown by at most as many names as the text has bytes.
 pub fn read_groups(
@@ -73,7 +71,7 @@ pub fn read_groups(
     ensures grown { Grown names.old names.new }
     ensures few { length names.new ≤ length names.old + length bytes.now }
 {
-    if bytes.len() > LARGEST {
+    if bytes.len() > LIMIT {
         let place = Place { line: 1, column: 1 };
         return Err(Refusal::from(LibraryFault::Limit { file, place }));
     }

@@ -65,16 +65,18 @@ impl Reader {
         }
     }
 
+    /// What has been read of the current statement.
+    pub(crate) fn mode(&self) -> Mode
+        ensures { result ≡ self.now.mode }
+    {
+        self.mode
+    }
+
     /// The form of the next token.
     pub(crate) fn context(&self) -> Context
         ensures { result ≡ context_of self.now.mode }
     {
-        match self.mode {
-            Mode::Args(Last::Name) => Context::BehindArg,
-            Mode::Args(_) => Context::Args,
-            Mode::Items => Context::Items,
-            Mode::Begin(_) | Mode::Named | Mode::Behind => Context::Statement,
-        }
+        self.mode.context()
     }
 
     /// The place of the word of the current statement.
@@ -95,10 +97,7 @@ impl Reader {
     pub(crate) fn is_deep(&self, mark: Mark) -> bool
         ensures { result ≡ is_deep_by self.now.mode mark }
     {
-        match (self.mode, mark) {
-            (Mode::Behind, Mark::BraceOpen) => true,
-            _ => false,
-        }
+        self.mode.is_deep(mark)
     }
 
     /// Whether the file may end here.
@@ -124,7 +123,8 @@ impl Reader {
         self.opened.top().is_some()
     }
 
-    fn has_room(&self) -> bool
+    /// Whether a group may be opened here.
+    pub(crate) fn has_room(&self) -> bool
         ensures { result ≡ nat_lt (length self.now.opened) 64 }
     {
         self.depth < DEEPEST

@@ -1,12 +1,14 @@
 ghost use Rattle.std.specs.Prelude.{◌≡◌, ℕ, List, [], ◌∷◌, Some, None, ◌+◌, ◌<◌, ◌≤◌, ◌^◌, true, false, length, drop, IfOk, IfErr, OnOk, OnErr, if◌then◌else◌};
 ghost use Rattle.std.specs.String.{string_bytes};
+ghost use Rattle.lp_text.specs.declared.shelf.TheConstants.{LIMIT};
 ghost use Rattle.lp_text.specs.Texts.{Grown, has_text, place_of, with_text};
 ghost use Rattle.lp_liberty.specs.Grammar.{Sign};
 ghost use Rattle.lp_liberty.specs.Lexing.{name_of};
 ghost use Rattle.lp_liberty.specs.Tokens.{between, token_of, tokens_of};
-ghost use Rattle.lp_liberty.specs.Machine.{Taken, Whole, finished, mark_in, name_in, numbered_as, read_in, start, step_at, taken_in};
+ghost use Rattle.lp_liberty.specs.Machine.{Taken, Whole, finished, mark_in, name_in, number_in, numbered_as, next_step, read_in, start, stop_ahead, taken_in};
 ghost use Rattle.lp_liberty.specs.Outcome.{IsStop, RefusedBy};
 
+use crate::ahead::opens_group;
 use crate::decode::decode;
 use crate::lexed::{Lexed, lexed_at};
 use crate::mark::{Mark, Sort};
@@ -20,7 +22,7 @@ use std::alloc::Global;
 const LONGEST: usize = 1_048_576;
 
 /// Why a text gives no groups: the index of a byte, or of the text's end.
-#[derive(Clone, Copy, Debug, PartialEq, Eq)]
+#[derive(Clone, Copy)]
 pub(crate) enum Stop {
     /// No text of the form goes on with the token here, or ends here.
     Syntax(usize),
@@ -68,7 +70,7 @@ fn take_name(
 ) -> Result<bool, NoMemory>
     requires { length names.old < 4294967295 }
     ensures names { OnOk result (names.new ≡ with_text names.old (name_of said.now)) }
-    ensures taken { IfOk result (λ taken. name_in quoted (numbered_as (with_text names.old (name_of said.now)) (name_of said.now)) at reader.old ≡ (if taken then Some reader.new else None)) }
+    ensures taken { IfOk result (λ taken. name_in quoted (number_in names.old (name_of said.now)) at reader.old ≡ (if taken then Some reader.new else None)) }
     ensures grown { Grown names.old names.new }
     ensures few { length names.new ≤ length names.old + 1 }
 {
@@ -102,26 +104,40 @@ fn take_mark(reader: &mut Reader, mark: Mark, at: usize) -> Result<(), Stop>
     Err(refusal(deep, head, at))
 }
 
-/// Takes the next token of a text, unless there is none. Its first byte has the index `at`.
+/// Where a text stops at a token that is too long, whose first byte has the index `at`. It is the first of at most `left`
+/// tokens that are left: at the word of the group whose head it stands in, where that is too deep, else at the token.
+fn too_long(reader: &Reader, rest: &[u8], left: usize, at: usize) -> Stop
+    requires { length rest.now ≤ 67108864 }
+    ensures { IsStop result (stop_ahead left rest.now reader.now at) }
+{
+    if !reader.has_room() && opens_group(reader.mode(), rest, left) {
+        return Stop::Deep(reader.head());
+    }
+    Stop::Long(at)
+}
+
+/// Takes the next token of a text, unless there is none. Its first byte has the index `at`, and it is one of at most `left`.
 fn step(
     reader: &mut Reader,
     names: &mut Names,
     name: &mut String,
     rest: &[u8],
+    left: usize,
     token: Lexed,
     at: usize,
 ) -> Result<(), Stop>
+    requires size { length rest.now ≤ 67108864 }
     requires room { length names.old < 4294967295 }
     requires few { length reader.old.groups < 2 ^ 32 }
     requires order { token.from ≤ token.«to» }
     requires within { token.«to» ≤ length rest.now }
-    ensures ok { OnOk result (step_at names.old reader.old at token.size (token_of rest.now token token.sort) ≡ Taken names.new reader.new) }
-    ensures err { IfErr result (λ stop. RefusedBy stop (step_at names.old reader.old at token.size (token_of rest.now token token.sort))) }
+    ensures ok { OnOk result (next_step left rest.now names.old reader.old token at ≡ Taken names.new reader.new) }
+    ensures err { IfErr result (λ stop. RefusedBy stop (next_step left rest.now names.old reader.old token at)) }
     ensures grown { Grown names.old names.new }
     ensures small { length names.new ≤ length names.old + 1 }
 {
     if token.size > LONGEST {
-        return Err(Stop::Long(at));
+        return Err(too_long(reader, rest, left, at));
     }
     let said = &rest[token.from..token.to];
     let taken = match token.sort {
@@ -146,7 +162,7 @@ fn finish(reader: Reader, end: usize) -> Result<Items<Group>, Stop>
 
 /// The groups of a text, or where it is refused.
 pub(crate) fn run(alloc: Global, names: &mut Names, text: &[u8]) -> Result<Items<Group>, Stop>
-    requires small { length text.now ≤ 67108864 }
+    requires small { length text.now ≤ LIMIT }
     requires room { length names.old ≤ 3000000000 }
     ensures ok { IfOk result (λ groups. read_in (length text.now) names.old start (tokens_of text.now) ≡ Whole names.new groups) }
     ensures err { IfErr result (λ stop. IsStop stop (read_in (length text.now) names.old start (tokens_of text.now))) }
@@ -162,7 +178,16 @@ pub(crate) fn run(alloc: Global, names: &mut Names, text: &[u8]) -> Result<Items
         if token.is_end() {
             return finish(reader, text.len());
         }
-        step(&mut reader, names, &mut name, rest, token, at + token.start)?;
+        let left = text.len() - round;
+        step(
+            &mut reader,
+            names,
+            &mut name,
+            rest,
+            left,
+            token,
+            at + token.start,
+        )?;
         at += token.start + token.size;
     }
     finish(reader, text.len())

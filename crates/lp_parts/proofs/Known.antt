@@ -13,7 +13,7 @@ use Rattle.lp_model.specs.GroupsView.{GroupView, group_view}
 use Rattle.lp_attributes.specs.Expressions.{are_known}
 use Rattle.lp_attributes.proofs.Finding.{beyond}
 use Rattle.lp_parts.specs.Source.{is_part, arg_at}
-use Rattle.lp_parts.specs.Names.{is_state, is_output, with_texts, with_pins, with_inputs, with_variable, with_variables, with_pg, pin_names, signal_names, pg_names}
+use Rattle.lp_parts.specs.Names.{is_state, is_output, with_texts, with_inputs, with_variables, with_pg, signal_names, pg_names}
 
 module _ (T : List (List ℕ)) where
   known_if : (b : Bool) (set : List (List ℕ)) (t : List ℕ) → are_known T set ≡ true → has_text t T ≡ true → are_known T (if b then set else set ++ t ∷ []) ≡ true
@@ -41,11 +41,6 @@ module _ (T : List (List ℕ)) (empty : has_text [] T ≡ true) where
   known_texts [] set known = known
   known_texts (i ∷ ids) set known = known_texts ids (with_text set (text_at T i.0)) (known_with T set (text_at T i.0) known (text_known i.0))
 
-  known_variables : (pins : List (List ℕ)) (ids : List NameId) (set : List (List ℕ)) → are_known T set ≡ true → are_known T (fold (with_variable pins) set (name_texts T ids)) ≡ true
-  known_variables pins [] set known = known
-  known_variables pins (i ∷ ids) set known =
-      known_variables pins ids (with_variable pins set (text_at T i.0)) (either T (has_text (text_at T i.0) pins) set (with_text set (text_at T i.0)) known (known_with T set (text_at T i.0) known (text_known i.0)))
-
   take_texts : (n : ℕ) (ids : List NameId) → take n (name_texts T ids) ≡ name_texts T (take n ids)
   take_texts zero ids = refl
   take_texts (suc n) [] = refl
@@ -62,17 +57,17 @@ module _ (T : List (List ℕ)) (empty : has_text [] T ≡ true) where
   inputs_keep : (place : ℕ) (set : List (List ℕ)) (g : Group) → are_known T set ≡ true → are_known T (with_inputs place set (group_view T g)) ≡ true
   inputs_keep place set g known = either T (is_part place (codes "pin") (group_view T g) && not (is_output (group_view T g))) (with_texts set (name_texts T g.args)) set (known_texts g.args set known) known
 
-  variables_keep : (place : ℕ) (pins : List (List ℕ)) (set : List (List ℕ)) (g : Group) → are_known T set ≡ true → are_known T (with_variables place pins set (group_view T g)) ≡ true
-  variables_keep place pins set g known =
-      let two = subst (λ (xs : List (List ℕ)). are_known T (fold (with_variable pins) set xs) ≡ true) (sym (take_texts 2 g.args)) (known_variables pins (take 2 g.args) set known) in
-      either T (is_state place (group_view T g)) (fold (with_variable pins) set (take 2 (name_texts T g.args))) set two known
+  variables_keep : (place : ℕ) (set : List (List ℕ)) (g : Group) → are_known T set ≡ true → are_known T (with_variables place set (group_view T g)) ≡ true
+  variables_keep place set g known =
+      let two = subst (λ (xs : List (List ℕ)). are_known T (with_texts set xs) ≡ true) (sym (take_texts 2 g.args)) (known_texts (take 2 g.args) set known) in
+      either T (is_state place (group_view T g)) (with_texts set (take 2 (name_texts T g.args))) set two known
 
   pg_keeps : (place : ℕ) (set : List (List ℕ)) (g : Group) → are_known T set ≡ true → are_known T (with_pg place set (group_view T g)) ≡ true
   pg_keeps place set g known = either T (is_part place (codes "pg_pin") (group_view T g)) (with_text set (arg_at 0 (group_view T g))) set (known_with T set (arg_at 0 (group_view T g)) known (arg_known g.args)) known
 
   pub signals_known : (place : ℕ) (groups : List Group) → are_known T (signal_names place (map (group_view T) groups)) ≡ true
   signals_known place groups =
-      known_fold (with_variables place (pin_names place (map (group_view T) groups))) (variables_keep place (pin_names place (map (group_view T) groups))) groups (fold (with_inputs place) [] (map (group_view T) groups)) (known_fold (with_inputs place) (inputs_keep place) groups [] refl)
+      known_fold (with_variables place) (variables_keep place) groups (fold (with_inputs place) [] (map (group_view T) groups)) (known_fold (with_inputs place) (inputs_keep place) groups [] refl)
 
   pub pgs_known : (place : ℕ) (groups : List Group) → are_known T (pg_names place (map (group_view T) groups)) ≡ true
   pgs_known place groups = known_fold (with_pg place) (pg_keeps place) groups [] refl

@@ -1,7 +1,7 @@
 -- The names that stand in a cell (Liberty pin, pg_pin, ff and latch).
 use Rattle.std.specs.Prelude.{ℕ, Bool, not, ◌&&◌, ◌||◌, if◌then◌else◌, List, [], ◌∷◌, fold, take, Option, Some, None, codes, is_none}
 use Rattle.std.specs.List.{filter}
-use Rattle.lp_text.specs.Texts.{same_text, has_text, with_text}
+use Rattle.lp_text.specs.Texts.{same_text, with_text}
 use Rattle.lp_model.specs.GroupsView.{GroupView}
 use Rattle.lp_attributes.specs.Attributes.{says}
 use Rattle.lp_parts.specs.Source.{stands_in, is_part, arg_at}
@@ -19,29 +19,19 @@ abbrev pub is_output : GroupView → Bool
 is_output g = says (codes "direction") (codes "output") g
 
 -- pin (A, B) makes two pins
-abbrev pub with_pins : ℕ → List (List ℕ) → GroupView → List (List ℕ)
-with_pins place set g = if is_part place (codes "pin") g then with_texts set g.args else set
-
 abbrev pub with_inputs : ℕ → List (List ℕ) → GroupView → List (List ℕ)
 with_inputs place set g = if is_part place (codes "pin") g && not (is_output g) then with_texts set g.args else set
 
--- a pin's name wins over a state variable of the same name
-abbrev pub with_variable : List (List ℕ) → List (List ℕ) → List ℕ → List (List ℕ)
-with_variable pins set name = if has_text name pins then set else with_text set name
-
-abbrev pub with_variables : ℕ → List (List ℕ) → List (List ℕ) → GroupView → List (List ℕ)
-with_variables place pins set g = if is_state place g then fold (with_variable pins) set (take 2 g.args) else set
+-- the two variables of a state group; an output pin may have the name of one, and is no variable itself
+abbrev pub with_variables : ℕ → List (List ℕ) → GroupView → List (List ℕ)
+with_variables place set g = if is_state place g then with_texts set (take 2 g.args) else set
 
 abbrev pub with_pg : ℕ → List (List ℕ) → GroupView → List (List ℕ)
 with_pg place set g = if is_part place (codes "pg_pin") g then with_text set (arg_at 0 g) else set
 
--- the names of all pins
-abbrev pub pin_names : ℕ → List GroupView → List (List ℕ)
-pin_names place groups = fold (with_pins place) [] groups
-
 -- the names that a function may have: those of input pins and of state variables
 abbrev pub signal_names : ℕ → List GroupView → List (List ℕ)
-signal_names place groups = fold (with_variables place (pin_names place groups)) (fold (with_inputs place) [] groups) groups
+signal_names place groups = fold (with_variables place) (fold (with_inputs place) [] groups) groups
 
 -- the names that a power_down_function may have: those of power and ground pins
 abbrev pub pg_names : ℕ → List GroupView → List (List ℕ)

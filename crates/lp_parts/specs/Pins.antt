@@ -12,6 +12,7 @@ use Rattle.lp_model.specs.declared.library.PinUse.{PinUse}
 use Rattle.lp_model.specs.declared.library.PinUse.TheVariants as uses
 use Rattle.lp_model.specs.declared.library.Action.{Action}
 use Rattle.lp_model.specs.declared.library.RetClass.{RetClass}
+use Rattle.lp_model.specs.declared.library.RetClass.TheVariants as classes
 use Rattle.lp_model.specs.GroupsView.{GroupView}
 use Rattle.lp_model.specs.LibraryView.{ExprView, SwitchedView, PgPinView, PinView}
 use Rattle.lp_attributes.specs.Attributes.{value_of, values_of, says}
@@ -111,9 +112,24 @@ abbrev pub class_of : List (List ℕ) → Option RetClass
 class_of [] = None
 class_of (text ∷ values) = class text
 
+-- the actions that a class has
+abbrev pub saves : RetClass → Bool
+saves classes.Save = true
+saves classes.Restore = false
+saves classes.Both = true
+
+abbrev pub restores : RetClass → Bool
+restores classes.Save = false
+restores classes.Restore = true
+restores classes.Both = true
+
+-- an action that the class does not have is dropped
+abbrev pub action_if : Bool → List ℕ → GroupView → Option Action
+action_if has word g = if has then action_of word g else None
+
 abbrev pub retains : GroupView → Option RetClass → PinUse
 retains g None = uses.Plain
-retains g (Some c) = uses.Retain c (action_of (codes "save_action") g) (action_of (codes "restore_action") g)
+retains g (Some c) = uses.Retain c (action_if (saves c) (codes "save_action") g) (action_if (restores c) (codes "restore_action") g)
 
 abbrev pub retention_use : GroupView → Option (List (List ℕ)) → PinUse
 retention_use g None = uses.Plain

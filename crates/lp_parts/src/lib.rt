@@ -13,7 +13,7 @@ mod state;
 pub use function::{down_of, function_if_any, over_if_any, passed, small};
 pub use naming::{is_output, is_state, pg_names, signal_names};
 pub use pg::{is_internal_power, kind_of, pgs_of};
-pub use pin::{action_of, class_of, pins_of};
+pub use pin::{action_of, class_of, pins_of, restores, saves};
 pub use role::{copy_of, is_retention, is_switch, roles_of};
 pub use scope::{
     Frame, has_ground, has_primary_ground, has_primary_power, is_ground, is_power, only_ground,

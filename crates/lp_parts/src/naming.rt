@@ -1,9 +1,9 @@
 ghost use Rattle.std.specs.Prelude.{◌≡◌, [], IfOk, OnOk, ◌&&◌, not, codes, fold, map, slice_index_or, take};
-ghost use Rattle.lp_text.specs.Texts.{has_text, with_text};
+ghost use Rattle.lp_text.specs.Texts.{with_text};
 ghost use Rattle.lp_model.specs.Agreement.{name_texts};
 ghost use Rattle.lp_model.specs.GroupsView.{group_view};
 ghost use Rattle.lp_parts.specs.Source.{is_part};
-ghost use Rattle.lp_parts.specs.Names.{is_output, is_state, pg_names, pin_names, signal_names, with_inputs, with_pg, with_pins, with_texts, with_variable, with_variables};
+ghost use Rattle.lp_parts.specs.Names.{is_output, is_state, pg_names, signal_names, with_inputs, with_pg, with_texts, with_variables};
 
 use crate::source::{is_part, is_word, stands_in};
 use lp_attributes::{says, text_of};
@@ -43,32 +43,6 @@ fn add_texts(names: &Names, set: &mut Table, args: &[NameId]) -> Result<(), NoMe
         add_text(set, text_of(names, *arg))?;
     }
     Ok(())
-}
-
-/// Adds the names of a group's pins.
-fn add_pins(names: &Names, place: usize, set: &mut Table, group: &Group) -> Result<(), NoMemory>
-    ensures { OnOk result (set.new ≡ with_pins place set.old (group_view names.now group.now)) }
-{
-    if is_part(names, place, group, "pin") {
-        add_texts(names, set, group.args.as_slice())?;
-    }
-    Ok(())
-}
-
-/// The names of all pins.
-fn pin_names(
-    alloc: Global,
-    names: &Names,
-    place: usize,
-    groups: &[Group],
-) -> Result<Table, NoMemory>
-    ensures { IfOk result (λ t. t ≡ pin_names place (map (group_view names.now) groups.now)) }
-{
-    let mut set = Table::new(alloc);
-    for group in groups {
-        add_pins(names, place, &mut set, group)?;
-    }
-    Ok(set)
 }
 
 /// Whether a group makes input pins.
@@ -113,31 +87,6 @@ fn input_names(
     Ok(set)
 }
 
-/// Whether a set has a text.
-fn has(set: &Table, text: &str) -> bool
-    ensures { result ≡ has_text text.now set.now }
-{
-    set.find(text.as_bytes()).is_some()
-}
-
-/// Adds state variables whose names no pin has.
-fn add_variables(
-    names: &Names,
-    pins: &Table,
-    set: &mut Table,
-    args: &[NameId],
-) -> Result<(), NoMemory>
-    ensures { OnOk result (set.new ≡ fold (with_variable pins.now) set.old (name_texts names.now args.now)) }
-{
-    for arg in args {
-        let text = text_of(names, *arg);
-        if !has(pins, text) {
-            add_text(set, text)?;
-        }
-    }
-    Ok(())
-}
-
 /// At most the first two of some names.
 fn first_two(args: &[NameId]) -> &[NameId]
     ensures { result.now ≡ take 2 args.now }
@@ -146,17 +95,11 @@ fn first_two(args: &[NameId]) -> &[NameId]
 }
 
 /// Adds the variables of a state group.
-fn add_state(
-    names: &Names,
-    place: usize,
-    pins: &Table,
-    set: &mut Table,
-    group: &Group,
-) -> Result<(), NoMemory>
-    ensures { OnOk result (set.new ≡ with_variables place pins.now set.old (group_view names.now group.now)) }
+fn add_state(names: &Names, place: usize, set: &mut Table, group: &Group) -> Result<(), NoMemory>
+    ensures { OnOk result (set.new ≡ with_variables place set.old (group_view names.now group.now)) }
 {
     if is_state(names, place, group) {
-        add_variables(names, pins, set, first_two(group.args.as_slice()))?;
+        add_texts(names, set, first_two(group.args.as_slice()))?;
     }
     Ok(())
 }
@@ -165,14 +108,13 @@ fn add_state(
 fn add_states(
     names: &Names,
     place: usize,
-    pins: &Table,
     set: &mut Table,
     groups: &[Group],
 ) -> Result<(), NoMemory>
-    ensures { OnOk result (set.new ≡ fold (with_variables place pins.now) set.old (map (group_view names.now) groups.now)) }
+    ensures { OnOk result (set.new ≡ fold (with_variables place) set.old (map (group_view names.now) groups.now)) }
 {
     for group in groups {
-        add_state(names, place, pins, set, group)?;
+        add_state(names, place, set, group)?;
     }
     Ok(())
 }
@@ -186,9 +128,8 @@ pub fn signal_names(
 ) -> Result<Table, NoMemory>
     ensures { IfOk result (λ t. t ≡ signal_names place (map (group_view names.now) groups.now)) }
 {
-    let pins = pin_names(alloc, names, place, groups)?;
     let mut set = input_names(alloc, names, place, groups)?;
-    add_states(names, place, &pins, &mut set, groups)?;
+    add_states(names, place, &mut set, groups)?;
     Ok(set)
 }
 

@@ -6,7 +6,7 @@ ghost use Rattle.lp_model.specs.Agreement.{name_texts, numbers_below, option_num
 ghost use Rattle.lp_model.specs.GroupsView.{group_view};
 ghost use Rattle.lp_model.specs.LibraryView.{expr_numbers, expr_view, pin_numbers, pin_view};
 ghost use Rattle.lp_parts.specs.Functions.{small};
-ghost use Rattle.lp_parts.specs.Pins.{action_of, class_of, direction_of, function_of, ground_of, pin_of, pins_at, pins_of, power_down_of, power_of, related_by, retention_use, shift_use, use_of};
+ghost use Rattle.lp_parts.specs.Pins.{action_if, action_of, class_of, direction_of, function_of, ground_of, pin_of, pins_at, pins_of, power_down_of, power_of, related_by, restores, retention_use, saves, shift_use, use_of};
 ghost use Rattle.lp_parts.specs.Views.{Knows, frame_view};
 
 use crate::function::{down_of, function_if_any, small};
@@ -45,6 +45,36 @@ pub fn class_of(names: &Names, values: &[NameId]) -> Option<RetClass>
     }
 }
 
+/// Whether a class saves.
+pub fn saves(class: RetClass) -> bool
+    ensures { result ≡ saves class }
+{
+    matches!(class, RetClass::Save | RetClass::Both)
+}
+
+/// Whether a class restores.
+pub fn restores(class: RetClass) -> bool
+    ensures { result ≡ restores class }
+{
+    matches!(class, RetClass::Restore | RetClass::Both)
+}
+
+/// An action of a retention pin, none where its class does not have it.
+fn action_if(
+    alloc: Global,
+    names: &Names,
+    has: bool,
+    group: &Group,
+    word: &str,
+) -> Result<Option<Action>, NoMemory>
+    ensures { IfOk result (λ a. a ≡ action_if has word.now (group_view names.now group.now)) }
+{
+    if !has {
+        return Ok(None);
+    }
+    action_of(alloc, names, group, word)
+}
+
 /// What a pin with these retention values is for.
 fn retention_use(
     alloc: Global,
@@ -57,8 +87,8 @@ fn retention_use(
     match class_of(names, values) {
         None => Ok(PinUse::Plain),
         Some(class) => {
-            let save = action_of(alloc, names, group, "save_action")?;
-            let restore = action_of(alloc, names, group, "restore_action")?;
+            let save = action_if(alloc, names, saves(class), group, "save_action")?;
+            let restore = action_if(alloc, names, restores(class), group, "restore_action")?;
             Ok(PinUse::Retain(class, save, restore))
         }
     }

@@ -1,28 +1,21 @@
 -- What a cell by its texts says of the cell.
 use Rattle.std.proofs.Common.{◌≡◌, ℕ, Bool, true, false, not, ◌&&◌, cond, List, [], ◌∷◌, map, Option, Some, None, refl, sym, ◌∙◌, ap}
-use Rattle.std.specs.Prelude.{is_some, is_none, bytes_eq, slice_get, if◌then◌else◌}
+use Rattle.std.specs.Prelude.{is_some, bytes_eq}
 use Rattle.std.specs.List.{list_all, find}
 use Rattle.std.specs.Option.{option_map}
-use Rattle.std.proofs.lemmas.Option.{slice_get-map}
 use Rattle.std.proofs.lemmas.List.Folds.{list_all-map}
 use Rattle.lp_text.specs.Texts.{text_at}
 use Rattle.lp_text.specs.declared.names.NameId.{NameId}
 use Rattle.lp_tern.specs.declared.tern.Tern.TheVariants.{Zero}
 use Rattle.lp_model.specs.Agreement.{name_texts}
-use Rattle.lp_model.specs.LibraryView.{PgPinView, CellView, cell_view, pg_pin_view, pin_view, switched_view}
+use Rattle.lp_model.specs.LibraryView.{PgPinView, PinView, CellView, cell_view, pg_pin_view, pin_view}
 use Rattle.lp_model.specs.declared.library.Cell.{Cell}
 use Rattle.lp_model.specs.declared.library.PgPin.{PgPin}
-use Rattle.lp_model.specs.declared.library.Pin.{Pin}
-use Rattle.lp_model.specs.declared.library.Switched.{Switched}
 use Rattle.lp_behaviour.specs.Signals.{known}
 use Rattle.lp_spec_design.specs.Netlists.{first}
 use Rattle.lp_spec_pins.specs.Pins.{is_power, pg_named, level_by}
-use Rattle.lp_spec_plain.specs.Cells.{on_with, is_power_at, is_ground_at, has_ground, is_plain_pin}
-use Rattle.lp_plain_cells.specs.Rails.{pg_found, value_named, is_power_pin, is_ground_pin, is_ground_related}
-
-pub is_none_map : {A B : Type 0} (f : A → B) (o : Option A) → is_none (option_map f o) ≡ is_none o
-is_none_map f None = refl
-is_none_map f (Some x) = refl
+use Rattle.lp_spec_plain.specs.Cells.{on_with, follows}
+use Rattle.lp_plain_cells.specs.Rails.{pg_found, value_named, is_lost_pin}
 
 is_some-map : {A B : Type 0} (f : A → B) (o : Option A) → is_some (option_map f o) ≡ is_some o
 is_some-map f None = refl
@@ -66,31 +59,7 @@ module _ (texts : List (List ℕ)) where
     pub value-None : (power gnd : Bool) (name : NameId) → pg_found texts cell.pgs name ≡ None → value_named texts cell power gnd name ≡ Zero
     value-None power gnd name e = ap (λ o. known (level_by o (on_with power gnd o))) (named name ∙ ap (option_map (pg_pin_view texts)) e)
 
-    -- ---- places of power and ground pins
-
-    power_pin : (g : Option PgPin) → is_power_at (option_map (pg_pin_view texts) g) ≡ is_power_pin g
-    power_pin None = refl
-    power_pin (Some g) = refl
-
-    ground_pin : (g : Option PgPin) → is_ground_at (option_map (pg_pin_view texts) g) ≡ is_ground_pin g
-    ground_pin None = refl
-    ground_pin (Some g) = refl
-
-    pub power_at : (place : ℕ) → is_power_at (slice_get view.pgs place) ≡ is_power_pin (slice_get cell.pgs place)
-    power_at place = ap is_power_at (slice_get-map (pg_pin_view texts) cell.pgs place) ∙ power_pin (slice_get cell.pgs place)
-
-    pub ground_at : (gnd : Option ℕ) → has_ground view gnd ≡ is_ground_related cell.pgs gnd
-    ground_at None = refl
-    ground_at (Some place) = ap is_ground_at (slice_get-map (pg_pin_view texts) cell.pgs place) ∙ ground_pin (slice_get cell.pgs place)
-
     -- ---- all of them
 
-    pub all_unswitched : list_all (λ (g : PgPinView). is_none g.switched) view.pgs ≡ list_all (λ (g : PgPin). is_none g.switched) cell.pgs
-    all_unswitched = each cell.pgs
-      where
-        each : (pgs : List PgPin) → list_all (λ (g : PgPinView). is_none g.switched) (map (pg_pin_view texts) pgs) ≡ list_all (λ (g : PgPin). is_none g.switched) pgs
-        each [] = refl
-        each (g ∷ pgs) = λ i. is_none_map (switched_view texts) g.switched i && each pgs i
-
-    pub all_plain : list_all (is_plain_pin view) view.pins ≡ list_all (λ (q : Pin). is_plain_pin view (pin_view texts q)) cell.pins
-    all_plain = list_all-map (is_plain_pin view) (pin_view texts) cell.pins
+    pub all_lost : list_all (λ (q : PinView). follows view q.function q.power_down) view.pins ≡ list_all (is_lost_pin texts cell) cell.pins
+    all_lost = list_all-map (λ (q : PinView). follows view q.function q.power_down) (pin_view texts) cell.pins

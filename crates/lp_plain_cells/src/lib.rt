@@ -1,8 +1,8 @@
-//! Whether a cell works with one power and one ground, as `lp_spec_plain` says it.
+//! Whether a cell loses its outputs and its state exactly with its one supply, as `lp_spec_plain` says it.
 #![tactic(auto)]
 
 mod cell;
 mod down;
 mod rails;
 
-pub use cell::is_plain;
+pub use cell::loses_with_supply;

@@ -1,8 +1,8 @@
-ghost use Rattle.std.specs.Prelude.{◌≡◌, not, if◌then◌else◌, bytes_eq, option_copied, slice_get};
+ghost use Rattle.std.specs.Prelude.{◌≡◌, not, if◌then◌else◌, bytes_eq, option_copied};
 ghost use Rattle.lp_text.specs.Texts.{text_at};
 ghost use Rattle.lp_behaviour.specs.Signals.{known};
 ghost use Rattle.lp_spec_pins.specs.Pins as pins;
-ghost use Rattle.lp_plain_cells.specs.Rails.{is_ground_pin, is_power_pin, pg_found, value_named};
+ghost use Rattle.lp_plain_cells.specs.Rails.{pg_found, value_named};
 
 use lp_model::{Cell, PgKind, PgPin};
 use lp_tern::Tern;
@@ -68,26 +68,6 @@ fn is_power(kind: PgKind) -> bool
         | PgKind::InternalGround
         | PgKind::Pwell
         | PgKind::Deeppwell => false,
-    }
-}
-
-/// Whether a power pin stands at a place.
-pub(crate) fn has_power(pgs: &[PgPin], place: u8) -> bool
-    ensures { result ≡ is_power_pin (slice_get pgs.now place) }
-{
-    match pgs.get(usize::from(place)) {
-        Some(pg) => is_power(pg.kind),
-        None => false,
-    }
-}
-
-/// Whether a ground pin stands at a place.
-pub(crate) fn has_ground(pgs: &[PgPin], place: u8) -> bool
-    ensures { result ≡ is_ground_pin (slice_get pgs.now place) }
-{
-    match pgs.get(usize::from(place)) {
-        Some(pg) => !is_power(pg.kind),
-        None => false,
     }
 }
 

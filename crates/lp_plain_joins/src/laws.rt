@@ -13,5 +13,8 @@ ghost use Rattle.lp_spec_plain_netlist.specs.Flats.{flat_of};
 
 /// The netlist of a module that fits its cells is well formed, where both were read.
 pub fn powered_is_well_formed()
-    ensures { (cells : List CellView) (m : ModuleView) (power gnd : Name) (margin : ℕ) → is_single_module m ≡ true → are_read cells m ≡ true → is_fit cells m ≡ true → bytes_eq power gnd ≡ false → list_all is_visible power ≡ true → list_all is_visible gnd ≡ true → IsWellFormed (powered (flat_of cells m power gnd margin) ∷ []) }
+    ensures { (cells : List CellView) (m : ModuleView) (power gnd : Name) (margin : ℕ)
+        → is_single_module m ≡ true → are_read cells m ≡ true → is_fit cells m ≡ true
+        → bytes_eq power gnd ≡ false → list_all is_visible power ≡ true → list_all is_visible gnd ≡ true
+        → IsWellFormed (powered (flat_of cells m power gnd margin) ∷ []) }
 {}

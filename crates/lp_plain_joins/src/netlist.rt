@@ -69,7 +69,8 @@ pub fn connect_all(
     requires cells { numbers_below (length names.old) (flat_map cell_numbers index.now) ≡ true }
     requires source { numbers_below (length names.old) (module_numbers source) ≡ true }
     requires room { length names.old ≤ 4294967293 }
-    ensures supplied { IfOk result (λ w. (margin : ℕ) → module_view names.new w ≡ powered (flat_of (map (cell_view names.old) index.now) (module_view names.old source) power.now gnd.now margin)) }
+    ensures supplied { IfOk result (λ w. (margin : ℕ) → module_view names.new w
+        ≡ powered (flat_of (map (cell_view names.old) index.now) (module_view names.old source) power.now gnd.now margin)) }
     ensures numbers { IfOk result (λ w. numbers_below (length names.new) (module_numbers w) ≡ true) }
     ensures grown { Grown names.old names.new }
     ensures few { length names.new ≤ length names.old + 2 }

@@ -21,8 +21,7 @@ use Rattle.lp_spec_design.specs.Netlists.{Structure, cell_at, is_input}
 use Rattle.lp_spec_design.specs.Graph.{source_of}
 use Rattle.lp_spec_design.specs.Intents.{SetNumber}
 use Rattle.lp_spec_design.specs.Domains.{domain_of, primary_of, start_rail}
-use Rattle.lp_spec_design.specs.Chains.{rail}
-use Rattle.lp_spec_design.specs.Settled.{Key, At, Of, pin_named, function_of, node_at_pin, Design}
+use Rattle.lp_spec_design.specs.Settled.{Key, At, Of, pin_named, function_of, node_at_pin, Design, rail_of}
 use Rattle.lp_spec_design.specs.Reads.{set_keys, node_keys, some_node_keys, operator_keys, name_keys, function_keys, output_keys, source_keys, reads, keys}
 use Rattle.lp_spec_plain_module.specs.Designs.{design_of}
 use Rattle.lp_spec_plain_module.proofs.Plain.{no_operator}
@@ -256,7 +255,7 @@ module _ (cells : List CellView) (m : ModuleView) (power gnd : Name) (margin : �
 
   from_in : (n : Name) (ks : List ℕ) (w : Way) (j : Node) → j ≡ Outer n None → list_any (named_input cells m single given fit n) m.ports ≡ true → AllIn keys (source_keys d (Inner n None []) (Some (From w j))) (behind ks)
   from_in n ks w j e h =
-      subst (λ ops. AllIn keys (node_keys j ++ flat_map (operator_keys d.network d.intent) ops) (behind ks)) (sym (no_operator (flat_of cells m power gnd margin) w (rail d.structure d.network d.intent d.fuel j)))
+      subst (λ ops. AllIn keys (node_keys j ++ flat_map (operator_keys d.network d.intent) ops) (behind ks)) (sym (no_operator (flat_of cells m power gnd margin) w (rail_of d j)))
       (subst (λ k. AllIn keys (node_keys k ++ []) (behind ks)) (sym e) (input_in n ks h, tt))
 
   source_in : (n : Name) (ks : List ℕ) (o : Option Source) → source_of s (Inner n None []) ≡ o → ((b : ℕ) → Contains (row_of (option_map (source_row s nets) o)) b → Contains ks b) → AllIn keys (source_keys d (Inner n None []) o) (behind ks)
@@ -318,7 +317,7 @@ module _ (cells : List CellView) (m : ModuleView) (power gnd : Name) (margin : �
           | inl is ↦ subst (λ z. AllIn keys (source_keys d (Outer n None) (Some z)) (rest ++ behind ks)) (sym is)
               (set_in (start_rail d.structure d.intent (Outer n None)) (rest ++ behind ks) (has-behind (Of 0) rest (behind ks) (power_in ks)) (has-behind (Of 1) rest (behind ks) (ground_in ks)))
           | inr is ↦ subst (λ z. AllIn keys (source_keys d (Outer n None) (Some z)) (rest ++ behind ks)) (sym is)
-              (subst (λ ops. AllIn keys (node_keys (Inner n None []) ++ flat_map (operator_keys d.network d.intent) ops) (rest ++ behind ks)) (sym (no_operator (flat_of cells m power gnd margin) (PortBit [] n None) (rail d.structure d.network d.intent d.fuel (Inner n None []))))
+              (subst (λ ops. AllIn keys (node_keys (Inner n None []) ++ flat_map (operator_keys d.network d.intent) ops) (rest ++ behind ks)) (sym (no_operator (flat_of cells m power gnd margin) (PortBit [] n None) (rail_of d (Inner n None []))))
               (has-behind (At (Inner n None [])) rest (behind ks) (has-before (At (Inner n None [])) (inners ks) tail_keys (net_there ks complete n (port_known n fine.1))), tt))
         ]
 

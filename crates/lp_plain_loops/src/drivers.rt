@@ -66,7 +66,8 @@ fn note_pins<'a>(
     cell: &'a Cell,
 )
     requires { length found.old ≡ length nets.now }
-    ensures { all_shown nets.now found.new ≡ note_all nets.now (all_shown nets.now found.old) (flat_map (pin_entries nets.now cell.now.pins (named instance.now.connections)) cell.now.pins) }
+    ensures { all_shown nets.now found.new
+        ≡ note_all nets.now (all_shown nets.now found.old) (flat_map (pin_entries nets.now cell.now.pins (named instance.now.connections)) cell.now.pins) }
 {
     for pin in cell.pins.as_slice() {
         if pin.direction == Direction::Output {
@@ -84,7 +85,9 @@ fn note_pin<'a>(
     pin: NameId,
 )
     requires { length found.old ≡ length nets.now }
-    ensures { all_shown nets.now found.new ≡ note_all nets.now (all_shown nets.now found.old) (net_entries (net_at (named instance.now.connections) pin.0) (output_row nets.now cell.now.pins (named instance.now.connections) pin.0)) }
+    ensures { all_shown nets.now found.new
+        ≡ note_all nets.now (all_shown nets.now found.old)
+        (net_entries (net_at (named instance.now.connections) pin.0) (output_row nets.now cell.now.pins (named instance.now.connections) pin.0)) }
 {
     if let Some(net) = net_at(named(&instance.connections), pin) {
         note(nets, found, net, Driver::Pin(instance, cell, pin));

@@ -67,9 +67,17 @@ pub fn has_loop(
     requires source { numbers_below (length names.now) (module_numbers source.now) ≡ true }
     requires small { length source.now.ports + length source.now.nets < 4294967295 }
     // No node does: the keys of the design have an order.
-    ensures ordered { IfOk result (λ b. OnFalse b ((power gnd : Name) (margin : ℕ) → is_single_module (module_view names.now source.now) ≡ true → are_read (map (cell_view names.now) index.now) (module_view names.now source.now) ≡ true → is_fit (map (cell_view names.now) index.now) (module_view names.now source.now) ≡ true → IsOrdered (flat_of (map (cell_view names.now) index.now) (module_view names.now source.now) power gnd margin))) }
+    ensures ordered { IfOk result (λ b. OnFalse b ((power gnd : Name) (margin : ℕ)
+        → is_single_module (module_view names.now source.now) ≡ true
+        → are_read (map (cell_view names.now) index.now) (module_view names.now source.now) ≡ true
+        → is_fit (map (cell_view names.now) index.now) (module_view names.now source.now) ≡ true
+        → IsOrdered (flat_of (map (cell_view names.now) index.now) (module_view names.now source.now) power gnd margin))) }
     // Some node does.
-    ensures looped { IfOk result (λ b. OnTrue b ((power gnd : Name) (margin : ℕ) → is_single_module (module_view names.now source.now) ≡ true → are_read (map (cell_view names.now) index.now) (module_view names.now source.now) ≡ true → is_fit (map (cell_view names.now) index.now) (module_view names.now source.now) ≡ true → HasLoop (flat_of (map (cell_view names.now) index.now) (module_view names.now source.now) power gnd margin))) }
+    ensures looped { IfOk result (λ b. OnTrue b ((power gnd : Name) (margin : ℕ)
+        → is_single_module (module_view names.now source.now) ≡ true
+        → are_read (map (cell_view names.now) index.now) (module_view names.now source.now) ≡ true
+        → is_fit (map (cell_view names.now) index.now) (module_view names.now source.now) ≡ true
+        → HasLoop (flat_of (map (cell_view names.now) index.now) (module_view names.now source.now) power gnd margin))) }
 {
     let looped = is_looped(alloc, names.count(), index, source)?;
     Ok(looped)

@@ -1,5 +1,6 @@
 -- Power intent of one domain (IEEE 1801-2015, the commands that are read).
 use Rattle.std.specs.Prelude.{◌≡◌, ℕ, not, ◌≤◌, List, [], ◌∷◌, ◌++◌, length, codes, IsTrue, Some, bytes_eq}
+use Rattle.lp_text.specs.declared.shelf.TheConstants.{LIMIT}
 use Rattle.lp_text.specs.Micros.{micros_of}
 use Rattle.lp_plain_upf.specs.declared.plain.Intent.{Intent}
 use Rattle.lp_plain_upf.specs.Names.{is_free_name}
@@ -24,7 +25,7 @@ intent_text i volts = joined (
 
 -- the text, of at most the limit of one file, denotes this intent
 pub record IsIntent (text : List ℕ) (i : Intent) : Type 0 where
-  pub within : length text ≤ 67108864
+  pub within : length text ≤ LIMIT
   pub volts : List ℕ
   pub spelled : text ≡ intent_text i volts
   pub power_free : IsTrue (is_free_name i.power)

@@ -1,7 +1,7 @@
 use lp_text::Bytes;
 
 /// The power intent of a design with one power domain, which is the top's.
-#[derive(Debug, Drop)]
+#[derive(Drop)]
 pub struct Intent {
     /// The supply port that is the power of the domain's primary supply.
     pub power: Bytes,

@@ -32,7 +32,7 @@ root_at o (Some origin) = origin.root.0
 abbrev pub root_of : Supplies → ℕ → ℕ
 root_of s o = root_at o (slice_get s.origins o)
 
--- the origin is the ground function of some set (IEEE 1801-2015 create_supply_set)
+-- the origin is the ground function of some used set (IEEE 1801-2015 create_supply_set); a set that is not used has no origins
 abbrev pub is_ground_of : ℕ → Option SetOrigins → Bool
 is_ground_of o None = false
 is_ground_of o (Some set) = set.gnd.0 == o

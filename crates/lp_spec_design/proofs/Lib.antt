@@ -5,3 +5,7 @@ mod Retained
 pub mod Runs
 pub mod Corrupted
 pub mod Same
+pub mod Members
+pub mod WaysBack
+pub mod Looped
+pub mod Sources

@@ -14,9 +14,9 @@ use Rattle.lp_spec_design.specs.Netlists.{cell_at}
 use Rattle.lp_spec_design.specs.Graph.{source_of}
 use Rattle.lp_spec_design.specs.Intents.{SetNumber, SupplySet, Origin, FromPort, FromSwitch, Strategy, Intent, Network}
 use Rattle.lp_spec_design.specs.Domains.{domain_of, primary_of, start_rail}
-use Rattle.lp_spec_design.specs.Chains.{Operator, Clamp, Shift, operators_at, rail}
+use Rattle.lp_spec_design.specs.Chains.{Operator, Clamp, Shift}
 use Rattle.lp_behaviour.specs.Signals.{known}
-use Rattle.lp_spec_design.specs.Settled.{Key, At, Of, Logic, State, Assignment, Event, Registers, Design, at, at_some, logic_in, state_in, is_on, both_on, set_at, set_on, kept, sensed, active_at, clamped, through, pin_named, state_named, value_named, named_value, function_of, output_by, output_of, node_at_pin, node_equation, origin_equation, equation}
+use Rattle.lp_spec_design.specs.Settled.{Key, At, Of, Logic, State, Assignment, Event, Registers, Design, rail_of, operators_of, at, at_some, logic_in, state_in, is_on, both_on, set_at, set_on, kept, sensed, active_at, clamped, through, pin_named, state_named, value_named, named_value, function_of, output_by, output_of, node_at_pin, node_equation, origin_equation, equation}
 use Rattle.lp_spec_design.specs.Reads.{set_keys_of, set_keys, node_keys, some_node_keys, control_keys, operator_keys, name_keys, function_keys, output_keys, source_keys, origin_keys, reads, keys}
 
 module _ (A B : Assignment) where
@@ -120,7 +120,7 @@ module _ (A B : Assignment) where
         λ r. kept (set_on-same d.network set (left (set_keys d.network set) (output_keys d p x q (cell_at d.structure p x)) h) r)
         (output-same p x q (cell_at d.structure p x) (right (set_keys d.network set) (output_keys d p x q (cell_at d.structure p x)) h) r)
     node-same k (Some (From w j)) h =
-        let operators = operators_at d.structure d.network d.intent d.fuel w (rail d.structure d.network d.intent d.fuel j) in
+        let operators = operators_of d w (rail_of d j) in
         through-same d.network d.intent (at A j) (at B j) operators
         (at-same j (left (node_keys j) (flat_map (operator_keys d.network d.intent) operators) h))
         (right (node_keys j) (flat_map (operator_keys d.network d.intent) operators) h)

@@ -6,6 +6,7 @@ use Rattle.lp_tern.specs.declared.tern.Tern.TheVariants.{Zero, One, X}
 use Rattle.lp_tern.specs.declared.supply.SupplyState.{SupplyState}
 use Rattle.lp_tern.specs.declared.supply.SupplyState.TheVariants.{On, Off, Unknown}
 use Rattle.lp_model.specs.declared.intent.Applies.TheVariants.{Outputs}
+use Rattle.lp_spec_design.specs.Nodes.{computing}
 use Rattle.lp_spec_design.specs.Intents.{Intent, AtInstance, AtCell}
 use Rattle.lp_spec_design.specs.Settled.{Assignment, Design, Event, output, computed}
 use Rattle.lp_spec_design.specs.Registers.{States, retention_winner, is_register, is_retained_register, states_after}
@@ -14,7 +15,7 @@ use Rattle.lp_model.specs.NetlistView.{ConstBit, ByName, InstanceView, ModuleVie
 use Rattle.lp_spec_design.specs.Netlists.{Structure}
 
 abbrev design : Design
-design = record { structure = registered; network = network (volts 1000000 1000000 1000000); intent = with_strategies (isolation 1 None Outputs ∷ retaining None ∷ []); fuel = 12 }
+design = record { structure = registered; network = network (volts 1000000 1000000 1000000); intent = with_strategies (isolation 1 None Outputs ∷ retaining None ∷ []) }
 
 -- the data is 1; the ground, the top's supply and, but for the second form, the retention supply are on
 abbrev event_with : SupplyState → Tern → Tern → Tern → Tern → SupplyState → Event
@@ -58,48 +59,62 @@ abbrev restoring : Event
 restoring = event Zero One Zero One (On 1000000)
 
 first : y idle X ≡ X
+unfolding computing
 first = refl
 
 after_first : next None idle X X ≡ (X, X)
+unfolding computing
 after_first = refl
 
 second : y clocked X ≡ X
+unfolding computing
 second = refl
 
 -- the clock has risen: the data of the event before
 after_second : next (Some (settled idle X)) clocked X X ≡ (One, X)
+unfolding computing
 after_second = refl
 
 third : y saving One ≡ One
+unfolding computing
 third = refl
 
 after_third : next (Some (settled clocked X)) saving One X ≡ (One, One)
+unfolding computing
 after_third = refl
 
 fourth : y off One ≡ Zero
+unfolding computing
 fourth = refl
 
 -- the main state is lost, the saved one stays
 after_fourth : next (Some (settled saving One)) off One One ≡ (X, One)
+unfolding computing
 after_fourth = refl
 
 fifth : y restoring X ≡ Zero
+unfolding computing
 fifth = refl
 
 after_fifth : next (Some (settled off One)) restoring X One ≡ (One, One)
+unfolding computing
 after_fifth = refl
 
 sixth : y idle One ≡ One
+unfolding computing
 sixth = refl
 
 -- where the retention supply is unknown while the block is off, the saved state is lost too
 after_fourth_unknown : next (Some (settled saving One)) (event_with Unknown Zero One Zero Zero Off) One One ≡ (X, X)
+unfolding computing
 after_fourth_unknown = refl
 
 after_fifth_unknown : next (Some (settled (event_with Unknown Zero One Zero Zero Off) One)) restoring X X ≡ (X, X)
+unfolding computing
 after_fifth_unknown = refl
 
 sixth_unknown : y idle X ≡ X
+unfolding computing
 sixth_unknown = refl
 
 -- a named register is above its instance, and that above the domain
@@ -107,9 +122,11 @@ abbrev three : Intent
 three = with_strategies (retaining None ∷ retaining (Some (AtCell (codes "u" ∷ []) (codes "r") ∷ [])) ∷ retaining (Some (AtInstance (codes "u" ∷ []) ∷ [])) ∷ [])
 
 the_named_register : option_and_then (λ t. Some t.0) (retention_winner three (codes "u" ∷ []) (codes "r")) ≡ Some 1
+unfolding computing
 the_named_register = refl
 
 another_of_the_instance : option_and_then (λ t. Some t.0) (retention_winner three (codes "u" ∷ []) (codes "s")) ≡ Some 2
+unfolding computing
 another_of_the_instance = refl
 
 -- before the first event every pin was X, also one that is tied to a constant: the clock may have risen
@@ -123,9 +140,11 @@ abbrev tied : Structure
 tied = record registered { modules = map ties_in registered.modules }
 
 tied_at_first : (states_after (record design { structure = tied; intent = with_strategies [] }) None (computed design idle (states Zero X).main 12) (states Zero X)).main (codes "u" ∷ []) (codes "r") ≡ X
+unfolding computing
 tied_at_first = refl
 
 tied_later : (states_after (record design { structure = tied; intent = with_strategies [] }) (Some (settled idle Zero)) (settled idle Zero) (states Zero X)).main (codes "u" ∷ []) (codes "r") ≡ Zero
+unfolding computing
 tied_later = refl
 
 -- the register is one, and retained; an instance that the design lacks is none

@@ -4,7 +4,8 @@ use Rattle.std.specs.List.{list_any}
 use Rattle.lp_model.specs.NetlistView.{PortView, ModuleView}
 use Rattle.lp_spec_design.specs.Keys.{Name, Path, same_path, Node, Inner, Outer, Way, PortBit, Source, CellPin, Environment}
 use Rattle.lp_spec_design.specs.Netlists.{Structure, module_at, indices, is_input}
-use Rattle.lp_spec_design.specs.Graph.{trail, beginning, source_of, Reader, InputPin, TopOutput, below}
+use Rattle.lp_spec_design.specs.Instances.{module_instances}
+use Rattle.lp_spec_design.specs.Graph.{trail, beginning, source_of, Reader, InputPin, TopOutput}
 use Rattle.lp_spec_design.specs.Intents.{SetNumber, Domain, PortSupply, Intent}
 
 -- the number of the first of a list that passes a test
@@ -53,7 +54,7 @@ bits_of s p = by (module_at s p)
 
 -- in port order: by instance, then by port, then from the left bit to the right one
 abbrev pub boundary : Structure → Intent → List BoundaryBit
-boundary s i = flat_map (bits_of s) (filter (is_boundary i) (below s 64 []))
+boundary s i = flat_map (bits_of s) (filter (is_boundary i) (module_instances s))
 
 -- ---- supplies of drivers and readers
 

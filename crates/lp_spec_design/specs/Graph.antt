@@ -6,7 +6,8 @@ use Rattle.lp_model.specs.declared.netlist.Direction.TheVariants.{Input, Output}
 use Rattle.lp_model.specs.NetlistView.{BitView, PortView, ConnectionsView, InstanceView, AssignView, ModuleView}
 use Rattle.lp_model.specs.LibraryView.{PgPinView, CellView, PinView}
 use Rattle.lp_spec_design.specs.Keys.{Name, Path, Node, Inner, Outer, Fixed, Way, PortBit, AssignBit, Source, CellPin, SwitchedPin, Environment, From, same_node, same_way, same_index}
-use Rattle.lp_spec_design.specs.Netlists.{Structure, first, module_named, cell_named, module_at, indices, node_of, connected, is_input}
+use Rattle.lp_spec_design.specs.Netlists.{Structure, first, module_named, cell_named, module_at, cell_at, instance_named, indices, node_of, connected, is_input}
+use Rattle.lp_spec_design.specs.Instances.{Placed, cell_instances}
 
 -- each bit of a port with what it is connected to, in order from the left; what is left over on one side is not joined
 abbrev pub pairs : {A B : Type 0} → List A → List B → List (A × B)
@@ -28,25 +29,29 @@ when b x = if b then Some x else None
 
 -- ---- what drives a net bit of a module, from its own ports
 
+-- from what an instance's connection has at a bit of a port
+abbrev pub joined_outside : Path → Name → Name → Option ℕ → PortView → InstanceView → ModuleView → List Source
+joined_outside p inst n i port x inner =
+    some_of (λ pair. when (same_index pair.0 i) (From (PortBit (inst ∷ p) n i) (node_of p pair.1))) (pairs (indices port.range) (connected inner.ports n x.connections))
+
 -- the way into a bit that the port has, from the outside of the top or from what the instance's connection has there
 abbrev pub from_port : Structure → Path → Name → Option ℕ → PortView → List Source
 from_port s [] n i port = if list_any (same_index i) (indices port.range) then From (PortBit [] n i) (Outer n i) ∷ [] else []
-from_port s (inst ∷ p) n i port = unwrap_or (option_and_then (λ outer. option_and_then (λ x. option_and_then (λ inner. Some (joined outer x inner)) (module_named s x.target)) (first (λ x. bytes_eq x.name inst) outer.instances)) (module_at s p)) []
-  where
-    joined : ModuleView → InstanceView → ModuleView → List Source
-    joined outer x inner = some_of (λ pair. when (same_index pair.0 i) (From (PortBit (inst ∷ p) n i) (node_of p pair.1))) (pairs (indices port.range) (connected inner.ports n x.connections))
+from_port s (inst ∷ p) n i port = unwrap_or (option_and_then (λ outer. option_and_then (λ x. option_and_then (λ inner. Some (joined_outside p inst n i port x inner)) (module_named s x.target)) (first (λ x. bytes_eq x.name inst) outer.instances)) (module_at s p)) []
 
 abbrev pub ports_in : Structure → Path → Name → Option ℕ → ModuleView → List Source
 ports_in s p n i m = flat_map (from_port s p n i) (filter (λ port. bytes_eq port.name n && is_input port) m.ports)
 
 -- ---- from the instances of its module
 
+-- from the bits of an output port to what the instance's connection has there
+abbrev pub joined_inside : Path → Name → Option ℕ → InstanceView → ModuleView → PortView → List Source
+joined_inside p n i x inner port =
+    some_of (λ pair. when (same_node (node_of p pair.1) (Inner n i p)) (From (PortBit (x.name ∷ p) port.name pair.0) (Inner port.name pair.0 (x.name ∷ p)))) (pairs (indices port.range) (connected inner.ports port.name x.connections))
+
 -- an output port of a module instance
 abbrev pub from_instance : Path → Name → Option ℕ → InstanceView → ModuleView → List Source
-from_instance p n i x inner = flat_map joined (filter (λ port. not (is_input port)) inner.ports)
-  where
-    joined : PortView → List Source
-    joined port = some_of (λ pair. when (same_node (node_of p pair.1) (Inner n i p)) (From (PortBit (x.name ∷ p) port.name pair.0) (Inner port.name pair.0 (x.name ∷ p)))) (pairs (indices port.range) (connected inner.ports port.name x.connections))
+from_instance p n i x inner = flat_map (joined_inside p n i x inner) (filter (λ port. not (is_input port)) inner.ports)
 
 abbrev pub is_output_pin : PinView → Bool
 is_output_pin q = by q.direction
@@ -65,13 +70,14 @@ from_cell p n i x c =
     some_of (λ q. when (is_output_pin q && touches p n i (connected [] q.name x.connections)) (CellPin p x.name q.name)) c.pins
     ++ some_of (λ (g : PgPinView). when (is_some g.switched && touches p n i (connected [] g.name x.connections)) (SwitchedPin p x.name g.name)) c.pgs
 
+-- an instance is one of a module, else of a cell
+abbrev pub from_target : Path → Name → Option ℕ → InstanceView → Option ModuleView → Option CellView → List Source
+from_target p n i x (Some m) c = from_instance p n i x m
+from_target p n i x None (Some c) = from_cell p n i x c
+from_target p n i x None None = []
+
 abbrev pub from_one : Structure → Path → Name → Option ℕ → InstanceView → List Source
-from_one s p n i x = by (module_named s x.target) (cell_named s x.target)
-  where
-    by : Option ModuleView → Option CellView → List Source
-    by (Some m) c = from_instance p n i x m
-    by None (Some c) = from_cell p n i x c
-    by None None = []
+from_one s p n i x = from_target p n i x (module_named s x.target) (cell_named s x.target)
 
 -- ---- from its assigns
 
@@ -143,19 +149,6 @@ pub data Reader : Type 0 where
   InputPin : Path → Name → Name → Reader
   TopOutput : Name → Option ℕ → Reader
 
--- the module instances of a module, by their paths
-abbrev pub children : Structure → Path → List Path
-children s p = by (module_at s p)
-  where
-    by : Option ModuleView → List Path
-    by None = []
-    by (Some m) = map (λ x. x.name ∷ p) (filter (λ x. is_some (module_named s x.target)) m.instances)
-
--- an instance and those below it; the depth is at most 64
-abbrev pub below : Structure → ℕ → Path → List Path
-below s zero p = []
-below s (suc depth) p = p ∷ flat_map (below s depth) (children s p)
-
 -- the node at an input pin of a cell instance, none where the pin is open; a pin has one bit
 abbrev pub pin_node : Path → Name → ConnectionsView → Option Node
 pin_node p q cs = by (connected [] q cs)
@@ -164,17 +157,14 @@ pin_node p q cs = by (connected [] q cs)
     by [] = None
     by (b ∷ rest) = Some (node_of p b)
 
--- the input pins of the cell instances of an instance, each with its node
-abbrev pub pins_of : Structure → Path → List (Reader × Node)
-pins_of s p = by (module_at s p)
-  where
-    by_cell : InstanceView → Option CellView → List (Reader × Node)
-    by_cell x None = []
-    by_cell x (Some c) = some_of (λ q. option_and_then (λ k. Some (InputPin p x.name q.name, k)) (pin_node p q.name x.connections)) (filter (λ q. not (is_output_pin q)) c.pins)
+-- the input pins of a cell, each with what is connected to it in the instance
+abbrev pub pins_in : Placed → Option InstanceView → Option CellView → List (Reader × Node)
+pins_in a (Some x) (Some c) = some_of (λ q. option_and_then (λ k. Some (InputPin a.path a.instance q.name, k)) (pin_node a.path q.name x.connections)) (filter (λ q. not (is_output_pin q)) c.pins)
+pins_in a _ _ = []
 
-    by : Option ModuleView → List (Reader × Node)
-    by None = []
-    by (Some m) = flat_map (λ x. by_cell x (cell_named s x.target)) m.instances
+-- the input pins of a cell instance that are connected, each with its node
+abbrev pub pins_of : Structure → Placed → List (Reader × Node)
+pins_of s a = pins_in a (option_and_then (λ m. instance_named m a.instance) (module_at s a.path)) (cell_at s a.path a.instance)
 
 -- the bits of the top's outputs, each with the node on the environment's side
 abbrev pub top_outputs : Structure → List (Reader × Node)
@@ -184,9 +174,9 @@ top_outputs s = by (module_at s [])
     by None = []
     by (Some m) = flat_map (λ port. map (λ i. (TopOutput port.name i, Outer port.name i)) (indices port.range)) (filter (λ port. not (is_input port)) m.ports)
 
--- all readers, with their nodes: cell input pins by instance and then top outputs
+-- all readers, with their nodes: cell input pins by cell instance and then top outputs
 abbrev pub readers : Structure → List (Reader × Node)
-readers s = flat_map (pins_of s) (below s 64 []) ++ top_outputs s
+readers s = flat_map (pins_of s) (cell_instances s) ++ top_outputs s
 
 -- a reader is reached by a way
 abbrev pub passes : Structure → ℕ → Way → Node → Bool

@@ -1,9 +1,11 @@
 pub mod Chains
 pub mod Domains
 pub mod Graph
+pub mod Instances
 pub mod Intents
 pub mod Keys
 pub mod Netlists
+pub mod Nodes
 pub mod Samples
 pub mod Settled
 pub mod Winners

@@ -11,8 +11,8 @@ use Rattle.lp_spec_design.specs.Netlists.{cell_at}
 use Rattle.lp_spec_design.specs.Graph.{source_of}
 use Rattle.lp_spec_design.specs.Intents.{SetNumber, SupplySet, Origin, FromPort, FromSwitch, Strategy, Intent, Network}
 use Rattle.lp_spec_design.specs.Domains.{domain_of, primary_of, start_rail}
-use Rattle.lp_spec_design.specs.Chains.{Operator, Clamp, Shift, operators_at, rail}
-use Rattle.lp_spec_design.specs.Settled.{Key, At, Of, set_at, pin_named, function_of, node_at_pin, Design}
+use Rattle.lp_spec_design.specs.Chains.{Operator, Clamp, Shift}
+use Rattle.lp_spec_design.specs.Settled.{Key, At, Of, set_at, pin_named, function_of, node_at_pin, Design, rail_of, operators_of}
 
 -- ---- what occurs
 
@@ -58,7 +58,7 @@ source_keys d k None = []
 source_keys d k (Some Environment) = set_keys d.network (start_rail d.structure d.intent k)
 source_keys d k (Some (SwitchedPin p x q)) = []
 source_keys d k (Some (CellPin p x q)) = set_keys d.network (primary_of d.intent (domain_of d.intent p)) ++ output_keys d p x q (cell_at d.structure p x)
-source_keys d k (Some (From w j)) = node_keys j ++ flat_map (operator_keys d.network d.intent) (operators_at d.structure d.network d.intent d.fuel w (rail d.structure d.network d.intent d.fuel j))
+source_keys d k (Some (From w j)) = node_keys j ++ flat_map (operator_keys d.network d.intent) (operators_of d w (rail_of d j))
 
 abbrev pub origin_keys : Option Origin → List Key
 origin_keys None = []
@@ -104,7 +104,7 @@ pub path-self : (p : Path) → same_path p p ≡ true
 path-self [] = refl
 path-self (a ∷ p) = both (bytes_eq a a) (same_path p p) (name-self a) (path-self p)
 
-index-true : (i j : Option ℕ) → same_index i j ≡ true → i ≡ j
+pub index-true : (i j : Option ℕ) → same_index i j ≡ true → i ≡ j
 index-true None None e = refl
 index-true None (Some j) e = absurd (true≢false (sym e))
 index-true (Some i) None e = absurd (true≢false (sym e))

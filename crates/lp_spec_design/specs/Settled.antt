@@ -1,7 +1,7 @@
 -- The value of each net bit and the state of each supply origin under power intent (own rule, after the corruption semantics of IEEE 1801-2015).
-use Rattle.std.specs.Prelude.{◌≡◌, ℕ, zero, suc, ◌+◌, nat_lt, Bool, true, false, not, ◌&&◌, List, [], ◌∷◌, map, Option, Some, None, option_and_then, if◌then◌else◌, bytes_eq, slice_get, unwrap_or, flat_map}
+use Rattle.std.specs.Prelude.{◌≡◌, ℕ, zero, suc, Bool, true, false, not, ◌&&◌, List, [], ◌∷◌, map, Option, Some, None, option_and_then, if◌then◌else◌, bytes_eq, slice_get, flat_map}
 use Rattle.lp_tern.specs.declared.tern.Tern.{Tern}
-use Rattle.lp_tern.specs.declared.tern.Tern.TheVariants.{Zero, One, X}
+use Rattle.lp_tern.specs.declared.tern.Tern.TheVariants.{X}
 use Rattle.lp_tern.specs.declared.supply.SupplyState.{SupplyState}
 use Rattle.lp_tern.specs.declared.supply.SupplyState.TheVariants.{On, Off, Unknown}
 use Rattle.lp_tern.specs.Values.{replacements, agreed, choose_of, choose_supply_of, negate_of}
@@ -10,9 +10,10 @@ use Rattle.lp_model.specs.NetlistView.{InstanceView}
 use Rattle.lp_model.specs.LibraryView.{ExprView, PinView, StateView, CellView}
 use Rattle.lp_rows.specs.Voltages.{under_of}
 use Rattle.lp_behaviour.specs.Signals.{known}
-use Rattle.lp_spec_design.specs.Keys.{Name, Path, Node, Outer, Fixed, Source, CellPin, SwitchedPin, Environment, From}
+use Rattle.lp_spec_design.specs.Keys.{Name, Path, Node, Outer, Fixed, Way, Source, CellPin, SwitchedPin, Environment, From}
 use Rattle.lp_spec_design.specs.Netlists.{Structure, first, module_at, cell_at, instance_named}
-use Rattle.lp_spec_design.specs.Graph.{source_of, trail, pin_node}
+use Rattle.lp_spec_design.specs.Graph.{source_of, pin_node}
+use Rattle.lp_spec_design.specs.Nodes.{fuel_of}
 use Rattle.lp_spec_design.specs.Intents.{SetNumber, SupplySet, Origin, FromPort, FromSwitch, Strategy, Intent, Network}
 use Rattle.lp_spec_design.specs.Domains.{domain_of, primary_of, start_rail}
 use Rattle.lp_spec_design.specs.Chains.{Operator, Clamp, Shift, operators_at, rail}
@@ -154,16 +155,19 @@ pub record Event : Type 0 where
   pub inputs : Name → Option ℕ → Tern
   pub supplies : ℕ → SupplyState
 
--- the design with what is asked of it; the fuel is the number of its nodes
+-- the design with what is asked of it
 pub record Design : Type 0 where
   pub structure : Structure
   pub network : Network
   pub intent : Intent
-  pub fuel : ℕ
 
--- no way back is longer than the fuel
-abbrev pub HasFuel : Design → Type 0
-HasFuel d = (k : Node) → trail d.structure (suc d.fuel) k ≡ trail d.structure d.fuel k
+-- the supply that drives a node
+abbrev pub rail_of : Design → Node → Option SetNumber
+rail_of d k = rail d.structure d.network d.intent (fuel_of d.structure) k
+
+-- what passes a way
+abbrev pub operators_of : Design → Way → Option SetNumber → List Operator
+operators_of d w r = operators_at d.structure d.network d.intent (fuel_of d.structure) w r
 
 -- a top input is driven where its driver supply is on, a cell output has its function where its domain's primary supply is on, a way passes its operators
 abbrev pub node_equation : Design → Event → Registers → Assignment → Node → Option Source → Tern
@@ -174,7 +178,7 @@ node_equation d ev regs A k (Some (SwitchedPin p x q)) = X
 node_equation d ev regs A k (Some (CellPin p x q)) =
     kept (set_on d.network A (primary_of d.intent (domain_of d.intent p)))
     (output_of d.structure A regs p x q (cell_at d.structure p x))
-node_equation d ev regs A k (Some (From w j)) = through d.network d.intent A (at A j) (operators_at d.structure d.network d.intent d.fuel w (rail d.structure d.network d.intent d.fuel j))
+node_equation d ev regs A k (Some (From w j)) = through d.network d.intent A (at A j) (operators_of d w (rail_of d j))
 
 -- a switch passes its input where its control is on, else it is off
 abbrev pub origin_equation : Event → Assignment → ℕ → Option Origin → SupplyState
@@ -194,7 +198,7 @@ SettlesIntent d ev regs A = (k : Key) → A k ≡ equation d ev regs k A
 
 -- a top output is read by its receiver's supply
 abbrev pub output : Design → Assignment → Name → Option ℕ → Option SetNumber → Tern
-output d A n j receiver = if is_under d.network A (rail d.structure d.network d.intent d.fuel (Outer n j)) receiver then X else at A (Outer n j)
+output d A n j receiver = if is_under d.network A (rail_of d (Outer n j)) receiver then X else at A (Outer n j)
 
 -- ---- computing it
 

@@ -6,8 +6,8 @@ mod laws;
 mod texts;
 
 pub use laws::{
-    active_clamp_holds, lost_behind_an_off_supply, lost_where_the_rail_is_off, rails_go_on,
-    runs_once, same_registers_as_themselves, settles_once, unwanted_shifter_stays_out,
-    winner_is_alone,
+    active_clamp_holds, lost_behind_an_off_supply, lost_where_the_rail_is_off, no_loop_has_fuel,
+    rails_go_on, runs_once, same_registers_as_themselves, settles_once, sources_have_nodes,
+    unwanted_shifter_stays_out, winner_is_alone,
 };
 pub use texts::functions_by_texts;

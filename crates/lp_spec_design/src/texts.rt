@@ -13,5 +13,8 @@ ghost use Rattle.lp_spec_design.specs.Sees.{Sees};
 
 /// Over a table of distinct texts a function of a cell has the same value by the texts of its names as by their numbers.
 pub fn functions_by_texts()
-    ensures { (texts : List (List ℕ)) (cell : Cell) (e : Formula) (pins : List Tern) (seen : Name → Tern) (q : Tern) → distinct texts ≡ true → numbers_below (length texts) (cell_numbers cell) ≡ true → numbers_below (length texts) (expr_numbers e) ≡ true → Sees texts cell pins seen → by_text.function_value (cell_view texts cell) seen q (expr_view texts e) ≡ by_number.function_value cell pins q e }
+    ensures { (texts : List (List ℕ)) (cell : Cell) (e : Formula) (pins : List Tern) (seen : Name → Tern) (q : Tern)
+        → distinct texts ≡ true → numbers_below (length texts) (cell_numbers cell) ≡ true → numbers_below (length texts) (expr_numbers e) ≡ true
+        → Sees texts cell pins seen
+        → by_text.function_value (cell_view texts cell) seen q (expr_view texts e) ≡ by_number.function_value cell pins q e }
 {}

@@ -1,21 +1,21 @@
 -- Lines about supply networks, computed on the small ones.
-use Rattle.std.proofs.Common.{◌≡◌, ℕ, List, [], ◌∷◌, ◌++◌, Option, Some, None, refl}
+use Rattle.std.proofs.Common.{◌≡◌, ℕ, true, List, [], ◌∷◌, ◌++◌, Option, Some, None, refl}
 use Rattle.std.specs.Prelude.{codes, map, replicate, option_and_then}
 use Rattle.lp_model.specs.declared.fault.intent.IntentLimit.{IntentLimit}
 use Rattle.lp_model.specs.declared.fault.intent.IntentLimit.TheVariants as limits
-use Rattle.lp_model.specs.declared.intent.Applies.TheVariants.{Outputs}
 use Rattle.lp_model.specs.declared.intent.DeclaredState.TheVariants.{On, Off}
 use Rattle.lp_model.specs.declared.supply.OriginKind.TheVariants.{Port}
 use Rattle.lp_model.specs.declared.supply.Supplies as model
 use Rattle.lp_spec_design.specs.Intents.{Intent}
-use Rattle.lp_spec_design.specs.Samples.{with_strategies, isolation}
+use Rattle.lp_spec_design.specs.Samples.{with_strategies}
 use Rattle.lp_spec_network.specs.Samples.{origin}
-use Rattle.lp_spec_origins.specs.Commands.{Command, NetAt, MakesNet, MakesSet}
+use Rattle.lp_spec_origins.specs.Commands.{Command, NetAt, MakesPort, MakesNet, MakesSet, MakesStrategy, MakesRow}
 use Rattle.lp_spec_origins.specs.Sets.{SupplySet}
+use Rattle.lp_spec_origins.specs.Used.{sets_of}
 use Rattle.lp_spec_origins.specs.Samples.{in_top, set_between, three, doubled, circular}
 use Rattle.lp_spec_realises.specs.Samples.{supplies}
 use Rattle.lp_spec_faults.specs.Lines.{first_of}
-use Rattle.lp_spec_faults.specs.Supplies.{intent_limits, Asked, SetMade, SupplyMade, undriven, two_sources, supply_loop, ground_mismatch, ground_level, no_states}
+use Rattle.lp_spec_faults.specs.Supplies.{intent_limits, Asked, SetMade, SupplyMade, undriven, two_sources, supply_loop, ground_mismatch, first_used, ground_level, no_states}
 
 -- two domains, whose primary supplies are sets 0 and 1
 abbrev intent : Intent
@@ -50,6 +50,17 @@ switch_in_a_circle = refl
 another_ground : option_and_then (λ s. Some s.0) (first_of (ground_mismatch (asked three (set_between (codes "VDD") (codes "VSS") ∷ set_between (codes "VDC") (codes "VDD") ∷ [])))) ≡ Some 1
 another_ground = refl
 
+-- it is compared with the first used set
+compared_with : first_used (asked three (set_between (codes "VDD") (codes "VSS") ∷ set_between (codes "VDC") (codes "VDD") ∷ [])) ≡ Some 0
+compared_with = refl
+
+-- where set 0 is not used
+abbrev without_the_first : Intent
+without_the_first = record intent { domains = record { elements = [] ∷ []; primary = Some 1; isolation = Some 2; retention = None } ∷ [] }
+
+the_first_used_one : first_used (record (asked three (set_between (codes "VDD") (codes "VDC") ∷ sets)) { intent = without_the_first }) ≡ Some 1
+the_first_used_one = refl
+
 one_ground : first_of (ground_mismatch (asked three sets)) ≡ None
 one_ground = refl
 
@@ -58,25 +69,38 @@ one_ground = refl
 abbrev network : model.Supplies
 network = supplies (On 1000000 ∷ Off ∷ []) (On 1000000 ∷ [])
 
-grounds_at_zero : first_of (ground_level intent network) ≡ None
+grounds_at_zero : first_of (ground_level network) ≡ None
 grounds_at_zero = refl
 
-states_declared : first_of (no_states intent network) ≡ None
+states_declared : first_of (no_states network) ≡ None
 states_declared = refl
 
 -- a ground with a voltage, and a power that is a ground
-raised_ground : first_of (ground_level intent (record network { origins = origin 0 (Port (On 1000000 ∷ [])) ∷ origin 1 (Port (On 1000000 ∷ [])) ∷ origin 2 (Port []) ∷ origin 3 (Port (On 0 ∷ On 100000 ∷ [])) ∷ [] })) ≡ Some 3
+raised_ground : first_of (ground_level (record network { origins = origin 0 (Port (On 1000000 ∷ [])) ∷ origin 1 (Port (On 1000000 ∷ [])) ∷ origin 2 (Port []) ∷ origin 3 (Port (On 0 ∷ On 100000 ∷ [])) ∷ [] })) ≡ Some 3
 raised_ground = refl
 
+-- a raised ground of a set that is not used is no fault, since that set has no origins
+abbrev grounds_of : Intent → model.Supplies
+grounds_of i = record (supplies (On 1000000 ∷ []) []) {
+  origins = origin 0 (Port (On 1000000 ∷ [])) ∷ origin 1 (Port (On 700000 ∷ [])) ∷ origin 2 (Port []) ∷ [];
+  sets = sets_of three 6 i (set_between (codes "VDD") (codes "VSS") ∷ set_between (codes "VDD") (codes "VDC") ∷ []);
+}
+
+abbrev only_the_top : Intent
+only_the_top = record intent { domains = record { elements = [] ∷ []; primary = Some 0; isolation = None; retention = None } ∷ [] }
+
+ground_of_an_unused_set : map (λ i. first_of (ground_level (grounds_of i))) (only_the_top ∷ intent ∷ []) ≡ None ∷ Some 1 ∷ []
+ground_of_an_unused_set = refl
+
 -- the block's power has no declared state
-stateless_power : first_of (no_states intent (supplies [] [])) ≡ Some 1
+stateless_power : first_of (no_states (supplies [] [])) ≡ Some 1
 stateless_power = refl
 
 -- ---- limits
 
--- so many strategies, rows and origins
+-- so many commands that make strategies, rows and ports of the top
 abbrev sized : ℕ → ℕ → ℕ → Option IntentLimit
-sized strategies rows origins = first_of (intent_limits (with_strategies (replicate strategies (isolation 1 None Outputs))) (record network { rows = replicate rows (record { states = [] }); origins = replicate origins (origin 0 (Port [])) }))
+sized strategies rows origins = first_of (intent_limits (replicate strategies MakesStrategy ++ (replicate rows MakesRow ++ replicate origins (MakesPort (in_top (codes "VDD")) true))))
 
 at_the_limits : sized 4096 4096 1024 ≡ None
 at_the_limits = refl

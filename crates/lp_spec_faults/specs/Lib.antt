@@ -1,6 +1,7 @@
 pub mod Domains
 pub mod Lines
 pub mod Modules
+pub mod Order
 pub mod Readings
 pub mod StateTable
 pub mod Strategies

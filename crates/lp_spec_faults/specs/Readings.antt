@@ -1,33 +1,34 @@
 -- The lines of the table of faults about what drives, reads and controls, and about cells (own rule).
-use Rattle.std.specs.Prelude.{ℕ, zero, suc, ◌==◌, Bool, true, false, not, ◌&&◌, ◌||◌, if◌then◌else◌, List, [], ◌∷◌, ◌++◌, map, filter, take, Option, Some, None, is_some, slice_get, flat_map}
+use Rattle.std.specs.Prelude.{ℕ, zero, suc, ◌==◌, Bool, true, false, not, ◌&&◌, ◌||◌, if◌then◌else◌, List, [], ◌∷◌, ◌++◌, map, filter, take, Option, Some, None, is_some, option_and_then, slice_get, flat_map}
 use Rattle.std.specs.List.{list_any}
 use Rattle.lp_model.specs.declared.intent.StrategyKind.{StrategyKind}
 use Rattle.lp_model.specs.declared.intent.StrategyKind.TheVariants.{Isolation, Shifting}
 use Rattle.lp_model.specs.declared.library.Action.{Action}
 use Rattle.lp_model.specs.declared.side.Side.TheVariants.{Upper, Lower}
 use Rattle.lp_model.specs.declared.supply.SetOrigins.{SetOrigins}
-use Rattle.lp_model.specs.NetlistView.{PortView, NetView, ModuleView}
 use Rattle.lp_model.specs.LibraryView.{CellView}
-use Rattle.lp_spec_design.specs.Keys.{Path, Node, Inner}
-use Rattle.lp_spec_design.specs.Netlists.{Structure, module_at, indices}
-use Rattle.lp_spec_design.specs.Graph.{trail, some_of, Reader, readers, below}
+use Rattle.lp_spec_design.specs.Keys.{Name, Path, Node, Outer, Source, CellPin, Environment}
+use Rattle.lp_spec_design.specs.Instances.{Placed, cell_instances}
+use Rattle.lp_spec_design.specs.Nodes.{fuel_of, inner_nodes}
+use Rattle.lp_spec_design.specs.Graph.{source_of, trail, beginning, some_of, numbered, Reader, readers}
 use Rattle.lp_spec_design.specs.Intents.{SetNumber, Strategy}
-use Rattle.lp_spec_design.specs.Domains.{BoundaryBit, reader_supply, primary_of}
+use Rattle.lp_spec_design.specs.Domains.{BoundaryBit, node_before, reader_supply, primary_of}
 use Rattle.lp_spec_design.specs.Winners.{winner}
-use Rattle.lp_spec_design.specs.Chains.{Operator, Clamp, Shift, rail, rail_after, bit_of_way}
+use Rattle.lp_spec_design.specs.Chains.{Operator, Clamp, Shift, rail_after, bit_of_way}
 use Rattle.lp_spec_design.specs.Registers.{retention, retention_winner}
-use Rattle.lp_spec_design.specs.Settled.{Key, At}
+use Rattle.lp_spec_design.specs.Settled.{Key, At, rail_of}
 use Rattle.lp_spec_design.specs.Reads.{reads, same_key}
 use Rattle.lp_rows.specs.Leaks.{leaks_in}
 use Rattle.lp_rows.specs.Rows.{lower_in}
 use Rattle.lp_spec_network.specs.Views.{first_row, lower_sets, leaking_sets}
 use Rattle.lp_spec_fit.specs.PowerDown.{is_unfit_power}
-use Rattle.lp_spec_realises.specs.Projects.{Project, Placed, network_of, design_of}
+use Rattle.lp_spec_realises.specs.Projects.{Project, network_of, design_of}
 use Rattle.lp_spec_realises.specs.Operators.{OperatorAt, all_operators, chain_of, SwitchAt, all_switches}
-use Rattle.lp_spec_realises.specs.Realises.{cell_instances, cell_of, primary_at}
+use Rattle.lp_spec_realises.specs.Realises.{cell_of, primary_at}
 use Rattle.lp_spec_realises.specs.Controls.{reads_too_low, power_of, power_of_rail}
-use Rattle.lp_spec_realises.specs.Implements.{Lists, operator_path, operator_chosen, switch_chosen, register_chosen}
+use Rattle.lp_spec_realises.specs.Implements.{Lists, strategy_of, operator_path, operator_chosen, switch_chosen, register_chosen}
 use Rattle.lp_spec_faults.specs.Lines.{Line}
+use Rattle.lp_spec_faults.specs.Order.{in_command_order}
 use Rattle.lp_spec_faults.specs.Strategies.{registers, rail_to_bit, crossing_of}
 
 -- ---- F66 UnfitPower: the power-down of an output or of the state of a cell is not that of the primary supply
@@ -67,7 +68,29 @@ reading_supply p (PinReads r k) = reader_supply p.intent r
 -- the rail that reaches it: behind the operators before a clamp, and that of a reader's node
 abbrev pub reaching_rail : Project → Reading → Option SetNumber
 reaching_rail p (ClampReads o) = rail_after (rail_to_bit p o.bit) (take o.number (chain_of p o.bit))
-reaching_rail p (PinReads r k) = rail p.structure (network_of p) p.intent p.fuel k
+reaching_rail p (PinReads r k) = rail_of (design_of p) k
+
+-- what drives it in the end, the first field of F53, F54 and F55: a pin of a cell instance, a bit of a top input, or nothing, also where the way begins at a constant
+pub data Driver : Type 0 where
+  OfPin : Path → Name → Name → Driver
+  OfInput : Name → Option ℕ → Driver
+  OfNothing : Driver
+
+abbrev pub driver_by : Node → Option Source → Driver
+driver_by k (Some (CellPin q x n)) = OfPin q x n
+driver_by (Outer n j) (Some Environment) = OfInput n j
+driver_by k _ = OfNothing
+
+abbrev pub driver_of : Project → Node → Driver
+driver_of p k = by (beginning k (trail p.structure (fuel_of p.structure) k))
+  where
+    by : Node → Driver
+    by j = driver_by j (source_of p.structure j)
+
+-- before a clamp it is what drives its boundary bit
+abbrev pub driver_read : Project → Reading → Driver
+driver_read p (ClampReads o) = driver_of p (node_before p.structure o.bit)
+driver_read p (PinReads r k) = driver_of p k
 
 abbrev pub of_both : (SetNumber → SetNumber → Bool) → Option SetNumber → Option SetNumber → Bool
 of_both test (Some r) (Some t) = test r t
@@ -91,7 +114,7 @@ is_forbidden p kind b =
 
 -- the boundary bits on the way to a node, the last one first
 abbrev pub bits_before : Project → Node → List BoundaryBit
-bits_before p k = some_of (λ step. bit_of_way p.structure p.intent step.0) (trail p.structure p.fuel k)
+bits_before p k = some_of (λ step. bit_of_way p.structure p.intent step.0) (trail p.structure (fuel_of p.structure) k)
 
 abbrev pub bits_of_reading : Project → Reading → List BoundaryBit
 bits_of_reading p (ClampReads o) = o.bit ∷ []
@@ -118,11 +141,11 @@ uncovered_level p = record { places = all_readings p; test = is_level_uncovered 
 -- ---- F53 UncoveredIsolation: the rail of a reader may be off while the reader is on, and no bit on the way has a winner without isolation
 
 abbrev pub is_leaking : Project → Reader × Node → Bool
-is_leaking p r = of_both (leaking_sets p.supplies) (rail p.structure (network_of p) p.intent p.fuel r.1) (reader_supply p.intent r.0)
+is_leaking p r = of_both (leaking_sets p.supplies) (rail_of (design_of p) r.1) (reader_supply p.intent r.0)
 
 -- the first row that shows a leak
 abbrev pub row_of_leak : Project → Reader × Node → Option ℕ
-row_of_leak p r = by (power_of p (rail p.structure (network_of p) p.intent p.fuel r.1)) (power_of p (reader_supply p.intent r.0))
+row_of_leak p r = by (power_of p (rail_of (design_of p) r.1)) (power_of p (reader_supply p.intent r.0))
   where
     by : Option ℕ → Option ℕ → Option ℕ
     by (Some a) (Some b) = first_row p.supplies (λ row. leaks_in p.supplies row a b)
@@ -133,7 +156,7 @@ uncovered_isolation p = record { places = readers p.structure; test = λ (r : Re
 
 -- ---- F59 ControlLevel: the rail of a control may be lower than a supply that reads it
 
--- strategies and switches in the order of their commands
+-- a strategy, or a switch by its origin
 pub data Asks : Type 0 where
   StrategyAsks : ℕ → Asks
   SwitchAsks : ℕ → Asks
@@ -183,8 +206,14 @@ reads_of_strategy p t (Some x) =
 abbrev pub reads_of_switch : ℕ → List SwitchAt → List ControlRead
 reads_of_switch o all = map (λ (x : SwitchAt). record { asks = SwitchAsks o; control = x.control; reader = Some x.input }) (filter (λ (x : SwitchAt). x.origin == o) all)
 
-abbrev pub control_reads : Project → List Asks → List ControlRead
-control_reads p order = flat_map by order
+-- strategies and switches, each with the number of its command
+abbrev pub all_asks : Project → (ℕ → ℕ) → List (ℕ × Asks)
+all_asks p switch_command =
+    map (λ t. (t.1.command, StrategyAsks t.0)) (numbered 0 p.intent.strategies)
+    ++ map (λ (x : SwitchAt). (switch_command x.origin, SwitchAsks x.origin)) (all_switches p)
+
+abbrev pub control_reads : Project → (ℕ → ℕ) → List ControlRead
+control_reads p switch_command = flat_map by (in_command_order (all_asks p switch_command))
   where
     by : Asks → List ControlRead
     by (StrategyAsks t) = reads_of_strategy p t (slice_get p.intent.strategies t)
@@ -194,8 +223,9 @@ control_reads p order = flat_map by order
 abbrev pub row_of_control : Project → ControlRead → Option ℕ
 row_of_control p x = row_of_lower p (power_of_rail p x.control) x.reader
 
-abbrev pub control_level : Project → List Asks → Line ControlRead
-control_level p order = record { places = control_reads p order; test = λ (x : ControlRead). reads_too_low p x.control x.reader }
+-- the numbers of the commands that made the switches are given by their origins
+abbrev pub control_level : Project → (ℕ → ℕ) → Line ControlRead
+control_level p switch_command = record { places = control_reads p switch_command; test = λ (x : ControlRead). reads_too_low p x.control x.reader }
 
 -- ---- F21 Loop: a node depends on itself
 
@@ -220,19 +250,9 @@ reached reads (suc steps) found = with_more (reached reads steps found)
 abbrev pub is_looped : Project → ℕ → Node → Bool
 is_looped p steps k = list_any (same_key (At k)) (reached (reads (design_of p)) steps (reads (design_of p) (At k)))
 
--- nodes in their order: by instance, then ports and then nets, from the left bit to the right one
-abbrev pub nodes_in : Path → Option ModuleView → List Node
-nodes_in path None = []
-nodes_in path (Some m) =
-    flat_map (λ (x : PortView). map (λ i. Inner x.name i path) (indices x.range)) m.ports
-    ++ flat_map (λ (x : NetView). map (λ i. Inner x.name i path) (indices x.range)) m.nets
-
-abbrev pub all_nodes : Structure → List Node
-all_nodes s = flat_map (λ path. nodes_in path (module_at s path)) (below s 64 [])
-
 -- the steps are the number of nodes and origins
 abbrev pub loop : Project → ℕ → Line Node
-loop p steps = record { places = all_nodes p.structure; test = is_looped p steps }
+loop p steps = record { places = inner_nodes p.structure; test = is_looped p steps }
 
 -- ---- F60 NoCell: no cell fits an operator, a register or a switch
 
@@ -259,3 +279,9 @@ lacks_cell p l (OfSwitch x) = not (is_some (switch_chosen p l x))
 
 abbrev pub no_cell : Project → Lists → Line Entry
 no_cell p l = record { places = entries p; test = lacks_cell p l }
+
+-- the strategy of its line; a switch has none
+abbrev pub entry_strategy : Project → Entry → Option ℕ
+entry_strategy p (OfOperator o) = Some (strategy_of o.operator)
+entry_strategy p (OfRegister a) = option_and_then (λ (t : ℕ × Strategy). Some t.0) (retention_winner p.intent a.path a.instance)
+entry_strategy p (OfSwitch x) = None

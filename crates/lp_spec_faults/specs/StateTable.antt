@@ -1,5 +1,5 @@
 -- The line of the table of faults about the state table (own rule, after IEEE 1801-2015 create_pst, add_pst_state, add_port_state and create_power_switch).
-use Rattle.std.specs.Prelude.{ℕ, ◌==◌, Bool, true, false, not, ◌&&◌, List, [], ◌∷◌, map, filter, length}
+use Rattle.std.specs.Prelude.{ℕ, ◌+◌, ◌==◌, Bool, true, false, not, ◌&&◌, List, [], ◌∷◌, ◌++◌, map, filter, length}
 use Rattle.std.specs.List.{list_any, list_all}
 use Rattle.lp_model.specs.declared.intent.DeclaredState.{DeclaredState}
 use Rattle.lp_model.specs.declared.intent.DeclaredState.TheVariants.{On, Off}
@@ -10,8 +10,9 @@ use Rattle.lp_rows.specs.Network.{port_states, root_of}
 use Rattle.lp_rows.specs.Rows.{is_on_at}
 use Rattle.lp_rows.specs.Leaks.{each_below, fits}
 use Rattle.lp_spec_design.specs.Netlists.{upward}
-use Rattle.lp_spec_design.specs.Graph.{pairs}
+use Rattle.lp_spec_design.specs.Graph.{pairs, numbered}
 use Rattle.lp_spec_faults.specs.Lines.{Line}
+use Rattle.lp_spec_faults.specs.Order.{in_command_order}
 
 -- ---- F42 StateMismatch: a row has no combination of states, or a switch's output has a voltage that its root lacks
 
@@ -20,12 +21,20 @@ pub data Entry : Type 0 where
   OfRow : ℕ → List RowState → Entry
   OfSwitch : ℕ → Entry
 
--- the supply network, the origins of the table's columns, rows and switches in the order of the commands that made them, and the declared states of each switch's output by its origin
+-- the supply network, the origins of the table's columns, the rows and the origins of switches, each with the number of the command that made it, and the declared states of each switch's output by its origin
 pub record StateTable : Type 0 where
   pub supplies : Supplies
   pub columns : List ℕ
-  pub entries : List Entry
+  pub rows : List (ℕ × List RowState)
+  pub switches : List (ℕ × ℕ)
   pub output_states : ℕ → List DeclaredState
+
+-- rows and switches in the order of the commands
+abbrev pub entries : StateTable → List Entry
+entries t =
+    in_command_order
+    (map (λ x. (x.1.0, OfRow (x.0 + 1) x.1.1)) (numbered 0 t.rows)
+    ++ map (λ x. (x.0, OfSwitch x.1)) t.switches)
 
 abbrev pub same_row_state : RowState → RowState → Bool
 same_row_state (Listed.On v) (Listed.On w) = v == w
@@ -70,4 +79,4 @@ is_mismatch t (OfRow n states) = not (has_combination t states)
 is_mismatch t (OfSwitch o) = list_any (root_lacks t.supplies o) (t.output_states o)
 
 abbrev pub state_mismatch : StateTable → Line Entry
-state_mismatch t = record { places = t.entries; test = is_mismatch t }
+state_mismatch t = record { places = entries t; test = is_mismatch t }

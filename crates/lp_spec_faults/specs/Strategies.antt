@@ -5,18 +5,22 @@ use Rattle.lp_model.specs.declared.side.Side.{Side}
 use Rattle.lp_model.specs.declared.side.Side.TheVariants.{Upper, Lower}
 use Rattle.lp_model.specs.declared.side.Location.{Location}
 use Rattle.lp_model.specs.declared.side.Location.TheVariants.{Own, Parent}
+use Rattle.lp_model.specs.declared.intent.StrategyKind.{StrategyKind}
 use Rattle.lp_model.specs.declared.intent.StrategyKind.TheVariants.{Isolation, Shifting, Retention}
 use Rattle.lp_model.specs.LibraryView.{CellView}
-use Rattle.lp_spec_design.specs.Keys.{Path}
-use Rattle.lp_spec_design.specs.Netlists.{is_input, cell_at}
+use Rattle.lp_spec_design.specs.Keys.{Path, same_path}
+use Rattle.lp_spec_design.specs.Netlists.{first, is_input, cell_at}
+use Rattle.lp_spec_design.specs.Instances.{Placed, module_instances, cell_instances}
+use Rattle.lp_spec_design.specs.Nodes.{fuel_of}
 use Rattle.lp_spec_design.specs.Graph.{numbered}
 use Rattle.lp_spec_design.specs.Intents.{SetNumber, Element, AtInstance, AtCell, AtPort, AtBit, Strategy, same_set}
-use Rattle.lp_spec_design.specs.Domains.{BoundaryBit, boundary, node_before, domain_of, same_domain}
+use Rattle.lp_spec_design.specs.Domains.{BoundaryBit, is_boundary, boundary, node_before, domain_of, same_domain}
 use Rattle.lp_spec_design.specs.Winners.{Crossing, crossing, side_domain, names, applying, winner, rank, is_tied, splits, same_kind, same_supply}
-use Rattle.lp_spec_design.specs.Chains.{Operator, Clamp, Shift, side_part, rail, rail_after}
+use Rattle.lp_spec_design.specs.Chains.{Operator, Clamp, Shift, side_part, rail_after}
 use Rattle.lp_spec_design.specs.Registers.{retains, retention_rank, retention_winner}
-use Rattle.lp_spec_realises.specs.Projects.{Project, Placed, network_of}
-use Rattle.lp_spec_realises.specs.Realises.{cell_instances, cell_of}
+use Rattle.lp_spec_design.specs.Settled.{rail_of}
+use Rattle.lp_spec_realises.specs.Projects.{Project, network_of, design_of}
+use Rattle.lp_spec_realises.specs.Realises.{cell_of}
 use Rattle.lp_spec_faults.specs.Lines.{Line}
 
 -- ---- places
@@ -48,7 +52,7 @@ abbrev pub sides_with_strategies : Project → List StrategyAt
 sides_with_strategies p = flat_map (λ a. map (λ t. record { place = a; number = t.0; strategy = t.1 }) (numbered 0 p.intent.strategies)) (all_sides p)
 
 abbrev pub crossing_of : Project → BoundaryBit → Crossing
-crossing_of p b = crossing p.structure p.intent p.fuel b
+crossing_of p b = crossing p.structure p.intent (fuel_of p.structure) b
 
 abbrev pub applying_at : Project → StrategyAt → List (ℕ × Strategy)
 applying_at p x = applying (network_of p) p.intent x.strategy.kind x.place.side (crossing_of p x.place.bit)
@@ -108,11 +112,24 @@ all_elements p = flat_map (λ (t : Strategy). map (λ e. record { strategy = t; 
 abbrev pub is_side_of : Project → ℕ → SideAt → Bool
 is_side_of p d a = is_some (side_domain p.intent a.side a.bit) && same_domain (side_domain p.intent a.side a.bit) (Some d)
 
-abbrev pub names_side : Project → ElementAt → Bool
-names_side p x = list_any (λ a. is_side_of p x.strategy.domain a && names a.bit x.element) (all_sides p)
-
 abbrev pub is_of_domain : Project → ℕ → Path → Bool
 is_of_domain p d path = is_some (domain_of p.intent path) && same_domain (domain_of p.intent path) (Some d)
+
+-- the domain has a side of a boundary instance: the upper one is its own domain's, the lower one its parent's
+abbrev pub has_side : Project → ℕ → Path → Bool
+has_side p d [] = is_of_domain p d []
+has_side p d (x ∷ q) = is_of_domain p d (x ∷ q) || is_of_domain p d q
+
+abbrev pub boundary_instances : Project → List Path
+boundary_instances p = filter (is_boundary p.intent) (module_instances p.structure)
+
+-- a boundary instance, which may have no ports, or a port or a bit of one
+abbrev pub names_side : Project → ElementAt → Bool
+names_side p x = by x.element
+  where
+    by : Element → Bool
+    by (AtInstance q) = list_any (λ k. same_path k q && has_side p x.strategy.domain k) (boundary_instances p)
+    by e = list_any (λ a. is_side_of p x.strategy.domain a && names a.bit e) (all_sides p)
 
 abbrev pub names_register_of : Project → ElementAt → Bool
 names_register_of p x = by x.element
@@ -133,12 +150,23 @@ split_sinks p = record { places = sides_with_strategies p; test = λ (x : Strate
 
 -- ---- F51 Tied: two strategies of one kind share the greatest rank; the place has the first of them
 
+abbrev pub retaining_at : Project → RegisterAt → List (ℕ × Strategy)
+retaining_at p x = filter (λ t. retains p.intent x.register.path x.register.instance t.1) (numbered 0 p.intent.strategies)
+
 abbrev pub ties : Project → Where → Bool
 ties p (OnSide x) = not (is_retention x.strategy) && (list_any (λ t. t.0 == x.number) (applying_at p x) && is_tied (rank x.place.bit) (applying_at p x) (x.number, x.strategy))
-ties p (OnRegister x) = retains p.intent x.register.path x.register.instance x.strategy && is_tied (retention_rank x.register.path x.register.instance) (filter (λ t. retains p.intent x.register.path x.register.instance t.1) (numbered 0 p.intent.strategies)) (x.number, x.strategy)
+ties p (OnRegister x) = retains p.intent x.register.path x.register.instance x.strategy && is_tied (retention_rank x.register.path x.register.instance) (retaining_at p x) (x.number, x.strategy)
 
 abbrev pub tied : Project → Line Where
 tied p = record { places = everywhere p; test = ties p }
+
+-- the last field of its line: the other strategy of that rank that comes first
+abbrev pub other_of_rank : (Strategy → ℕ) → List (ℕ × Strategy) → ℕ → Strategy → Option ℕ
+other_of_rank ranked all k t = option_and_then (λ y. Some y.0) (first (λ y. not (y.0 == k) && (ranked y.1 == ranked t)) all)
+
+abbrev pub tied_with : Project → Where → Option ℕ
+tied_with p (OnSide x) = other_of_rank (rank x.place.bit) (applying_at p x) x.number x.strategy
+tied_with p (OnRegister x) = other_of_rank (retention_rank x.register.path x.register.instance) (retaining_at p x) x.number x.strategy
 
 -- ---- F58 NoPlace: a winner that inserts has its location in the parent, at the top or on a lower side
 
@@ -178,7 +206,7 @@ shift_target p = record { places = sides_with_strategies p; test = λ (x : Strat
 -- ---- the part of a side, with the supply that reaches it
 
 abbrev pub rail_to_bit : Project → BoundaryBit → Option SetNumber
-rail_to_bit p b = rail p.structure (network_of p) p.intent p.fuel (node_before p.structure b)
+rail_to_bit p b = rail_of (design_of p) (node_before p.structure b)
 
 abbrev pub behind_side : Project → Side → BoundaryBit → Option SetNumber
 behind_side p side b = rail_after (rail_to_bit p b) (side_part (network_of p) p.intent side (crossing_of p b) (rail_to_bit p b))
@@ -199,6 +227,10 @@ part_of p a = side_part (network_of p) p.intent a.side (crossing_of p a.bit) (ra
 abbrev pub is_shift : Operator → Bool
 is_shift (Shift t a b) = true
 is_shift (Clamp t i) = false
+
+-- the winner of a kind on a side: of shifting the strategy of F56 and F65, of isolation and then of shifting those of F57
+abbrev pub winner_at : Project → StrategyKind → SideAt → Option ℕ
+winner_at p kind a = option_and_then (λ t. Some t.0) (winner (network_of p) p.intent kind a.side (crossing_of p a.bit))
 
 -- ---- F56 TwoShifters: a part has two
 

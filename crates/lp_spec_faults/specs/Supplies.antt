@@ -1,5 +1,5 @@
 -- The lines of the table of faults about the supply network (own rule, after IEEE 1801-2015, supply networks).
-use Rattle.std.specs.Prelude.{ℕ, zero, suc, ◌==◌, nat_lt, Bool, true, false, not, ◌&&◌, ◌||◌, List, [], ◌∷◌, map, filter, length, Option, Some, None, is_none, is_some, slice_get}
+use Rattle.std.specs.Prelude.{ℕ, zero, suc, ◌==◌, nat_lt, Bool, true, false, not, ◌&&◌, ◌||◌, List, [], ◌∷◌, map, filter, length, count_by, Option, Some, None, is_none, is_some, slice_get}
 use Rattle.std.specs.List.{list_any}
 use Rattle.lp_model.specs.declared.intent.DeclaredState.{DeclaredState}
 use Rattle.lp_model.specs.declared.intent.DeclaredState.TheVariants.{On, Off}
@@ -13,11 +13,10 @@ use Rattle.lp_model.specs.declared.supply.Supplies as model
 use Rattle.lp_rows.specs.Network.{port_states, input_of, root_of}
 use Rattle.lp_spec_design.specs.Graph.{numbered, some_of}
 use Rattle.lp_spec_design.specs.Intents.{SetNumber, Intent}
-use Rattle.lp_spec_origins.specs.Commands.{Scoped, Supply, PortAt, NetAt, Command, MakesPort, MakesNet, Connects, MakesSwitch, MakesSet}
+use Rattle.lp_spec_origins.specs.Commands.{Scoped, Supply, PortAt, NetAt, Command, MakesPort, MakesNet, Connects, MakesSwitch, MakesSet, MakesStrategy, MakesRow, makes_strategy, makes_row}
 use Rattle.lp_spec_origins.specs.Origins as origins
 use Rattle.lp_spec_origins.specs.Sets.{SupplySet, net_origin}
 use Rattle.lp_spec_origins.specs.Used.{is_used_set, is_used}
-use Rattle.lp_spec_network.specs.Views.{set_at}
 use Rattle.lp_spec_faults.specs.Lines.{Line}
 
 -- the commands, the sets by their numbers, what the intent names, and what the state table lists; the fuel is the number of ports and nets
@@ -28,18 +27,18 @@ pub record Asked : Type 0 where
   pub table : List Supply
   pub fuel : ℕ
 
--- ---- F43 Limit: strategies, rows of the state table and origins
+-- ---- F43 Limit: strategies, rows of the state table and origins, by the commands that make them, since a network never has more
 
 -- the size of the text is asked by its reader
-abbrev pub is_over : Intent → model.Supplies → IntentLimit → Bool
-is_over i s limits.Strategies = nat_lt 4096 (length i.strategies)
-is_over i s limits.Rows = nat_lt 4096 (length s.rows)
-is_over i s limits.Origins = nat_lt 1024 (length s.origins)
-is_over i s limits.Bytes = false
+abbrev pub is_over : List Command → IntentLimit → Bool
+is_over commands limits.Strategies = nat_lt 4096 (count_by makes_strategy commands)
+is_over commands limits.Rows = nat_lt 4096 (count_by makes_row commands)
+is_over commands limits.Origins = nat_lt 1024 (length (origins.sources commands))
+is_over commands limits.Bytes = false
 
 -- limits 2, 3 and 4
-abbrev pub intent_limits : Intent → model.Supplies → Line IntentLimit
-intent_limits i s = record { places = limits.Strategies ∷ limits.Rows ∷ limits.Origins ∷ []; test = is_over i s }
+abbrev pub intent_limits : List Command → Line IntentLimit
+intent_limits commands = record { places = limits.Strategies ∷ limits.Rows ∷ limits.Origins ∷ []; test = is_over commands }
 
 -- ---- F37 Undriven
 
@@ -54,6 +53,8 @@ made_by (MakesNet n) = Some (SupplyMade (NetAt n))
 made_by (MakesSet k) = Some (SetMade k)
 made_by (Connects n ports) = None
 made_by (MakesSwitch w) = None
+made_by MakesStrategy = None
+made_by MakesRow = None
 
 abbrev pub lacks_function : Option SupplySet → Bool
 lacks_function None = false
@@ -112,10 +113,19 @@ other_ground x (first ∷ rest) s = differs (ground_of x first.1) (ground_of x s
 abbrev pub ground_mismatch : Asked → Line (ℕ × SupplySet)
 ground_mismatch x = record { places = used_sets x; test = other_ground x (used_sets x) }
 
+-- the first field of its line, before the set that differs: the first used set in command order
+abbrev pub number_of_first : List (ℕ × SupplySet) → Option SetNumber
+number_of_first [] = None
+number_of_first (s ∷ rest) = Some s.0
+
+abbrev pub first_used : Asked → Option SetNumber
+first_used x = number_of_first (used_sets x)
+
 -- ---- F41 GroundLevel and F40 NoStates, over the origins of the state table
 
-abbrev pub has_function : (SetOrigins → Bool) → Intent → model.Supplies → Bool
-has_function test i s = list_any (λ k. is_used_set i k.0 && by (set_at s k.0)) (numbered 0 s.sets)
+-- a used set has such origins; only used sets have any
+abbrev pub has_function : (SetOrigins → Bool) → model.Supplies → Bool
+has_function test s = list_any by s.sets
   where
     by : Option SetOrigins → Bool
     by None = false
@@ -132,13 +142,13 @@ abbrev pub is_on_above : DeclaredState → Bool
 is_on_above (On v) = not (v == 0)
 is_on_above Off = false
 
-abbrev pub is_bad_ground : Intent → model.Supplies → ℕ → Bool
-is_bad_ground i s o =
-    has_function (is_ground_of o) i s
-    && (list_any is_on_above (port_states s o) || (has_function (is_power_of o) i s || is_some (input_of s o)))
+abbrev pub is_bad_ground : model.Supplies → ℕ → Bool
+is_bad_ground s o =
+    has_function (is_ground_of o) s
+    && (list_any is_on_above (port_states s o) || (has_function (is_power_of o) s || is_some (input_of s o)))
 
-abbrev pub ground_level : Intent → model.Supplies → Line ℕ
-ground_level i s = record { places = map (λ x. x.0) (numbered 0 s.origins); test = is_bad_ground i s }
+abbrev pub ground_level : model.Supplies → Line ℕ
+ground_level s = record { places = map (λ x. x.0) (numbered 0 s.origins); test = is_bad_ground s }
 
 abbrev pub is_empty : {A : Type 0} → List A → Bool
 is_empty [] = true
@@ -156,8 +166,8 @@ abbrev pub is_root_of_switch : model.Supplies → ℕ → Bool
 is_root_of_switch s o = list_any (λ x. is_some (input_of s x.0) && (root_of s x.0 == o)) (numbered 0 s.origins)
 
 -- a port without declared states is the power of a used set, or the root of a switch
-abbrev pub lacks_states : Intent → model.Supplies → ℕ → Bool
-lacks_states i s o = not (declared_by (slice_get s.origins o)) && (has_function (λ set. set.power.0 == o) i s || is_root_of_switch s o)
+abbrev pub lacks_states : model.Supplies → ℕ → Bool
+lacks_states s o = not (declared_by (slice_get s.origins o)) && (has_function (λ set. set.power.0 == o) s || is_root_of_switch s o)
 
-abbrev pub no_states : Intent → model.Supplies → Line ℕ
-no_states i s = record { places = map (λ x. x.0) (numbered 0 s.origins); test = lacks_states i s }
+abbrev pub no_states : model.Supplies → Line ℕ
+no_states s = record { places = map (λ x. x.0) (numbered 0 s.origins); test = lacks_states s }

@@ -3,12 +3,12 @@ use Rattle.std.specs.Prelude.{ℕ, ◌+◌, ◌-◌, ◌==◌, nat_lt, Bool, tru
 use Rattle.std.specs.List.{list_any}
 use Rattle.lp_model.specs.NetlistView.{BitView, NetBit, SelectBit, ConstBit, PortView, ConnectionView, ConnectionsView, ByName, ByPosition, InstanceView, AssignView, ModuleView}
 use Rattle.lp_model.specs.LibraryView.{PgPinView, PinView, CellView}
-use Rattle.lp_spec_design.specs.Keys.{Name, Node, same_node}
+use Rattle.lp_spec_design.specs.Keys.{Name, Node}
 use Rattle.lp_spec_design.specs.Netlists.{Structure, first, module_named, cell_named, is_input}
-use Rattle.lp_spec_design.specs.Graph.{numbered, when, is_output_pin, sources_of, trail}
+use Rattle.lp_spec_design.specs.Nodes.{inner_nodes, is_on_its_way}
+use Rattle.lp_spec_design.specs.Graph.{numbered, when, is_output_pin, sources_of}
 use Rattle.lp_spec_faults.specs.Lines.{Line}
 use Rattle.lp_spec_faults.specs.Modules.{bit_count}
-use Rattle.lp_spec_faults.specs.Readings.{all_nodes}
 
 -- ---- places
 
@@ -172,13 +172,9 @@ join_fields s (AtAssign m a) = m.name ∷ codes "assign" ∷ decimal a.0 ∷ []
 -- ---- F16 TwoDrivers: a node has two sources
 
 abbrev pub two_drivers : Structure → Line Node
-two_drivers s = record { places = all_nodes s; test = λ k. nat_lt 1 (length (sources_of s k)) }
+two_drivers s = record { places = inner_nodes s; test = λ k. nat_lt 1 (length (sources_of s k)) }
 
 -- ---- F23 WireLoop: a node reaches itself through ports and assigns alone
 
--- it lies on its own way back; no way without a repetition is longer than there are nodes
-abbrev pub is_on_its_way : Structure → Node → Bool
-is_on_its_way s k = list_any (λ step. same_node step.1 k) (trail s (length (all_nodes s)) k)
-
 abbrev pub wire_loop : Structure → Line Node
-wire_loop s = record { places = all_nodes s; test = is_on_its_way s }
+wire_loop s = record { places = inner_nodes s; test = is_on_its_way s }

@@ -7,4 +7,6 @@ mod laws;
 mod lines;
 
 pub use laws::a_row_has_a_combination;
-pub use lines::{a_line_has_its_first, ends_without_fault, stops_at_the_fault};
+pub use lines::{
+    a_line_has_its_first, commands_go_in_order, ends_without_fault, stops_at_the_fault,
+};

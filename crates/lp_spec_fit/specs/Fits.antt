@@ -17,19 +17,13 @@ use Rattle.lp_model.specs.LibraryView.{ExprView, SwitchedView, PgPinView, PinVie
 use Rattle.lp_spec_design.specs.Keys.{Name, same_bool}
 use Rattle.lp_spec_design.specs.Graph.{numbered, is_output_pin}
 use Rattle.lp_spec_design.specs.Settled.{pin_named}
-use Rattle.lp_spec_pins.specs.Pins.{is_input_pin, is_data, takes}
+use Rattle.lp_spec_pins.specs.Pins.{is_input_pin, is_data, takes, only, input_for}
 use Rattle.lp_spec_fit.specs.Equality.{are_equal}
 use Rattle.lp_spec_fit.specs.Needs.{ClampNeed, ShifterNeed, RegisterNeed, SwitchCellNeed}
 use Rattle.lp_spec_fit.specs.Joins.{Joins, all_joined, relates_to, clamp_joins, shifter_joins, register_joins, switch_side}
 use Rattle.lp_spec_fit.specs.PowerDown.{power_down_equals, outputs_need, state_needs}
 
 -- ---- parts of cells
-
--- the one of a list, where it has exactly one
-abbrev pub only : {A : Type 0} → List A → Option A
-only [] = None
-only (x ∷ []) = Some x
-only (x ∷ y ∷ rest) = None
 
 abbrev pub is_usable : CellView → Bool
 is_usable c = not (is_some c.unusable)
@@ -61,10 +55,6 @@ is_retention_pin q = by q.use_of
     by : PinUse → Bool
     by (Retain class save restore) = true
     by _ = false
-
--- the one input of a use, and the one output
-abbrev pub input_for : (PinView → Bool) → CellView → Option PinView
-input_for purpose c = only (filter (λ q. is_input_pin q && purpose q) c.pins)
 
 abbrev pub one_output : CellView → Option PinView
 one_output c = only (filter is_output_pin c.pins)

@@ -1,12 +1,10 @@
 -- What is promised of the texts that are written for inputs without fault.
-use Rattle.std.specs.Prelude.{◌≡◌, ℕ, suc, true, List, [], ◌∷◌, codes}
+use Rattle.std.specs.Prelude.{◌≡◌, ℕ, true, List, [], ◌∷◌, codes}
 use Rattle.lp_model.specs.NetlistView.{ModuleView}
 use Rattle.lp_model.specs.LibraryView.{CellView}
-use Rattle.lp_spec_design.specs.Settled.{Event}
-use Rattle.lp_spec_design.specs.Registers.{States}
 use Rattle.lp_spec_pins.specs.Pins.{Powered}
 use Rattle.lp_spec_pins.specs.Supplied.{is_supplied}
-use Rattle.lp_spec_plain.specs.Alike.{RunsAlike}
+use Rattle.lp_spec_plain.specs.Alike.{BehavesAlike}
 use Rattle.lp_spec_plain_module.specs.Designs.{Flat, design_of}
 use Rattle.lp_spec_plain_module.specs.Netlists.{powered, surroundings, origin_of}
 use Rattle.lp_verilog.specs.Reads.{Reads}
@@ -20,7 +18,7 @@ report_text = codes "lpinsert report 1\ntotal iso 0 shift 0 ret 0 switch 0\n"
 
 -- a netlist that is judged by its pins, among the supplies of a design
 abbrev pub judged : Flat → ModuleView → Powered
-judged f written = record { structure = record { modules = written ∷ []; cells = f.cells }; around = surroundings f; fuel = suc f.nodes }
+judged f written = record { structure = record { modules = written ∷ []; cells = f.cells }; around = surroundings f }
 
 -- the texts denote this design
 pub record HasDesign (inputs : Inputs) : Type 0 where
@@ -43,11 +41,11 @@ pub record IsWritten (inputs : Inputs) (margin : ℕ) (netlist report : List ℕ
   pub supplied : is_supplied (judged (flat_in inputs design margin) written) ≡ true
   pub reported : report ≡ report_text
 
--- the bytes read back as one netlist, whose every power and ground pin has one supply, and which judged pin by pin gives each output of the source the value that it has under its intent, for every register state and every list of events
+-- the bytes read back as one netlist, whose every power and ground pin has one supply, and which judged pin by pin gives each output of the source the value that it has under its intent and leaves the registers as they are under it, for every register state and every list of events
 pub record HeadlineHolds (inputs : Inputs) (margin : ℕ) (netlist : List ℕ) : Type 0 where
   pub design : HasDesign inputs
   pub written : ModuleView
   pub reads : Reads netlist (written ∷ [])
   pub only : (other : List ModuleView) → Reads netlist other → other ≡ written ∷ []
   pub supplied : is_supplied (judged (flat_in inputs design margin) written) ≡ true
-  pub headline : (events : List Event) (states : States) → RunsAlike (design_of (flat_in inputs design margin)) (judged (flat_in inputs design margin) written) (origin_of (flat_in inputs design margin)) events states
+  pub headline : let f = flat_in inputs design margin in BehavesAlike (design_of f) (judged f written) (origin_of f)

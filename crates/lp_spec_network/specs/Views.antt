@@ -58,7 +58,7 @@ abbrev pub kind_view : (ℕ → Node) → OriginKind → Origin
 kind_view node (Port states) = FromPort
 kind_view node (Switch input control high) = FromSwitch input.0 (node control.0) high
 
--- a set that is not made has no origins, and is never on
+-- a set that is not used has no origins, and is never on
 abbrev pub set_view : Option SetOrigins → SupplySet
 set_view (Some s) = record { power = s.power.0; gnd = s.gnd.0 }
 set_view None = record { power = 1024; gnd = 1024 }

@@ -4,4 +4,4 @@
 
 mod laws;
 
-pub use laws::{a_test_has_its_first_row, lower_by_the_table, one_first_row};
+pub use laws::{a_test_has_its_first_row, leaks_by_the_table, lower_by_the_table, one_first_row};

@@ -2,15 +2,22 @@
 use Rattle.std.proofs.Common.{◌≡◌, List, true, false, [], ◌∷◌, ◌++◌, Some, None, refl}
 use Rattle.std.specs.Prelude.{ℕ, codes, map}
 use Rattle.lp_model.specs.declared.supply.SetOrigins.{SetOrigins}
+use Rattle.lp_model.specs.declared.supply.Supplies.{Supplies}
+use Rattle.lp_model.specs.declared.supply.OriginKind.TheVariants.{Port}
+use Rattle.lp_rows.specs.Network.{has_part}
+use Rattle.lp_rows.specs.Rows.{within_in}
+use Rattle.lp_tern.specs.declared.supply.SupplyState.TheVariants as state
 use Rattle.lp_model.specs.declared.intent.Applies.TheVariants.{Outputs}
 use Rattle.lp_spec_design.specs.Keys.{Inner}
 use Rattle.lp_spec_design.specs.Intents.{Intent, FromPort, FromSwitch, BySet, ByDomain}
 use Rattle.lp_spec_design.specs.Samples.{with_strategies, isolation}
+use Rattle.lp_model.specs.declared.supply.OriginKind.{OriginKind}
+use Rattle.lp_model.specs.declared.supply.Origin as model
 use Rattle.lp_spec_origins.specs.Commands.{Command, MakesPort, Supply, PortAt, NetAt}
 use Rattle.lp_spec_origins.specs.Groups.{group_of, is_closed}
 use Rattle.lp_spec_origins.specs.Origins.{sources, origin_of, origins_of, root_within, origin_view}
 use Rattle.lp_spec_origins.specs.Sets.{SupplySet, set_origins, same_set_origins}
-use Rattle.lp_spec_origins.specs.Used.{is_used_set, is_used}
+use Rattle.lp_spec_origins.specs.Used.{is_used_set, sets_of, is_used}
 use Rattle.lp_spec_origins.specs.Samples.{in_top, in_block, set_between, three, switched, doubled, circular}
 
 abbrev net : List ℕ → Supply
@@ -97,3 +104,23 @@ used_by_attributes = refl
 -- set 0 is between VDC and VSS; VDD is the input of a switch; a port is used where the table lists it
 used_supplies : map (is_used switched intent (set_between (codes "VDC") (codes "VSS") ∷ []) (PortAt (in_top (codes "VSS")) ∷ [])) (net (codes "VDC") ∷ net (codes "VSS") ∷ net (codes "VDD") ∷ PortAt (in_top (codes "VSS")) ∷ PortAt (in_top (codes "VDD")) ∷ NetAt (in_block (codes "VDC")) ∷ []) ≡ true ∷ true ∷ true ∷ true ∷ false ∷ false ∷ []
 used_supplies = refl
+
+-- ---- a ground of a set that is not used: three ports without states, the second the ground of set 1 alone
+abbrev origin : ℕ → OriginKind → model.Origin
+origin root kind = record { name = record { scope = record { 0 = 0 }; name = record { 0 = 0 } }; kind = kind; root = record { 0 = root } }
+
+abbrev two_grounds : Intent → Supplies
+two_grounds i = record { origins = origin 0 (Port []) ∷ origin 1 (Port []) ∷ origin 2 (Port []) ∷ []; rows = []; sets = sets_of three 6 i (set_between (codes "VDD") (codes "VSS") ∷ set_between (codes "VDD") (codes "VDC") ∷ []) }
+
+abbrev only_the_top : Intent
+only_the_top = record intent { domains = record { elements = [] ∷ []; primary = Some 0; isolation = None; retention = None } ∷ []; strategies = [] }
+
+ground_of_an_unused_set : map (has_part (two_grounds only_the_top)) (0 ∷ 1 ∷ 2 ∷ []) ≡ false ∷ false ∷ true ∷ []
+ground_of_an_unused_set = refl
+
+ground_of_a_used_set : map (has_part (two_grounds intent)) (0 ∷ 1 ∷ 2 ∷ []) ≡ false ∷ true ∷ true ∷ []
+ground_of_a_used_set = refl
+
+-- it may have any state
+any_state_of_it : map (λ i. within_in (two_grounds i) [] (state.On 1000000 ∷ state.On 700000 ∷ state.On 0 ∷ [])) (only_the_top ∷ intent ∷ []) ≡ true ∷ false ∷ []
+any_state_of_it = refl

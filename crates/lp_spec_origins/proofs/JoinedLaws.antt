@@ -6,7 +6,7 @@ use Rattle.std.proofs.lemmas.Bool.{false≢true, and_parts, or_cases, or_left, o
 use Rattle.lp_spec_design.specs.Keys.{same_path}
 use Rattle.lp_spec_design.specs.Winners.{IsIn}
 use Rattle.lp_spec_design.specs.Reads.{name-true, name-self, path-true, path-self}
-use Rattle.lp_spec_origins.specs.Commands.{Scoped, same_scoped, Supply, PortAt, NetAt, same_supply, Command, MakesPort, MakesNet, Connects, MakesSwitch, MakesSet}
+use Rattle.lp_spec_origins.specs.Commands.{Scoped, same_scoped, Supply, PortAt, NetAt, same_supply, Command, MakesPort, MakesNet, Connects, MakesSwitch, MakesSet, MakesStrategy, MakesRow}
 use Rattle.lp_spec_origins.specs.Groups.{connects_by, connected, IsWay, Joined, joined_by, neighbours, is_among, added, group_of, is_closed}
 
 both-true : (a b : Bool) → a ≡ true → b ≡ true → (a && b) ≡ true
@@ -77,6 +77,8 @@ forth (NetAt n) (PortAt p) (MakesPort q i) e = absurd (false≢true e)
 forth (NetAt n) (PortAt p) (MakesNet q) e = absurd (false≢true e)
 forth (NetAt n) (PortAt p) (MakesSwitch w) e = absurd (false≢true e)
 forth (NetAt n) (PortAt p) (MakesSet k) e = absurd (false≢true e)
+forth (NetAt n) (PortAt p) MakesStrategy e = absurd (false≢true e)
+forth (NetAt n) (PortAt p) MakesRow e = absurd (false≢true e)
 forth (NetAt n) (NetAt p) c e = absurd (false≢true e)
 forth (PortAt n) b c e = absurd (false≢true e)
 
@@ -88,6 +90,8 @@ back (PortAt p) (NetAt n) (MakesPort q i) e = absurd (false≢true e)
 back (PortAt p) (NetAt n) (MakesNet q) e = absurd (false≢true e)
 back (PortAt p) (NetAt n) (MakesSwitch w) e = absurd (false≢true e)
 back (PortAt p) (NetAt n) (MakesSet k) e = absurd (false≢true e)
+back (PortAt p) (NetAt n) MakesStrategy e = absurd (false≢true e)
+back (PortAt p) (NetAt n) MakesRow e = absurd (false≢true e)
 back (NetAt p) (NetAt n) c e = absurd (false≢true e)
 back a (PortAt n) c e = absurd (false≢true e)
 
@@ -112,10 +116,14 @@ by-one (NetAt n) b (MakesPort q i) h = absurd h
 by-one (NetAt n) b (MakesNet q) h = absurd h
 by-one (NetAt n) b (MakesSwitch w) h = absurd h
 by-one (NetAt n) b (MakesSet k) h = absurd h
+by-one (NetAt n) b MakesStrategy h = absurd h
+by-one (NetAt n) b MakesRow h = absurd h
 by-one (PortAt n) b (MakesPort q i) h = absurd h
 by-one (PortAt n) b (MakesNet q) h = absurd h
 by-one (PortAt n) b (MakesSwitch w) h = absurd h
 by-one (PortAt n) b (MakesSet k) h = absurd h
+by-one (PortAt n) b MakesStrategy h = absurd h
+by-one (PortAt n) b MakesRow h = absurd h
 
 to-neighbour : (commands : List Command) (a b : Supply) → connected commands a b ≡ true → IsIn b (neighbours commands a)
 to-neighbour [] a b e = absurd (false≢true e)

@@ -1,5 +1,5 @@
--- The commands that make a supply network, their names whole (IEEE 1801-2015 create_supply_port, create_supply_net, connect_supply_net, create_power_switch).
-use Rattle.std.specs.Prelude.{ℕ, Bool, ◌&&◌, false, List, bytes_eq}
+-- The commands that make a supply network, their names whole, and those that make strategies and rows of the state table (IEEE 1801-2015 create_supply_port, create_supply_net, connect_supply_net, create_power_switch, create_supply_set, set_isolation, set_level_shifter, set_retention, add_pst_state).
+use Rattle.std.specs.Prelude.{ℕ, Bool, true, false, ◌&&◌, List, bytes_eq}
 use Rattle.lp_spec_design.specs.Keys.{Name, Path, same_path, Node}
 
 -- a name with the scope in which it was made
@@ -37,3 +37,15 @@ pub data Command : Type 0 where
   MakesSwitch : PowerSwitch → Command
   -- a supply set, by its number in command order
   MakesSet : ℕ → Command
+  -- a strategy
+  MakesStrategy : Command
+  -- a row of the state table
+  MakesRow : Command
+
+abbrev pub makes_strategy : Command → Bool
+makes_strategy MakesStrategy = true
+makes_strategy _ = false
+
+abbrev pub makes_row : Command → Bool
+makes_row MakesRow = true
+makes_row _ = false

@@ -3,7 +3,7 @@ use Rattle.std.specs.Prelude.{◌≡◌, ℕ, zero, suc, Bool, true, List, [], �
 use Rattle.lp_spec_design.specs.Keys.{Path}
 use Rattle.lp_spec_design.specs.Graph.{numbered, some_of}
 use Rattle.lp_spec_design.specs.Intents as intents
-use Rattle.lp_spec_origins.specs.Commands.{Scoped, Supply, PortAt, NetAt, PowerSwitch, Command, MakesPort, MakesNet, Connects, MakesSwitch, MakesSet}
+use Rattle.lp_spec_origins.specs.Commands.{Scoped, Supply, PortAt, NetAt, PowerSwitch, Command, MakesPort, MakesNet, Connects, MakesSwitch, MakesSet, MakesStrategy, MakesRow}
 use Rattle.lp_spec_origins.specs.Groups.{Joined, group_of, is_among}
 
 -- an input supply port of the top scope, or a switch, which feeds the net of its output; a port of a lower scope or of direction out joins and is no source
@@ -20,6 +20,8 @@ source_in (MakesPort p input) = by p.scope input
 source_in (MakesNet n) = None
 source_in (Connects n ports) = None
 source_in (MakesSet k) = None
+source_in MakesStrategy = None
+source_in MakesRow = None
 source_in (MakesSwitch w) = Some (OfSwitch w)
 
 -- the origins: the sources in the order of the commands that made them, counted from 0

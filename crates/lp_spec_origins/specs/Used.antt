@@ -1,10 +1,11 @@
 -- Which supply sets, supply ports and supply nets are used (own rule).
-use Rattle.std.specs.Prelude.{◌==◌, Bool, false, ◌&&◌, ◌||◌, List, Option, Some, None}
+use Rattle.std.specs.Prelude.{ℕ, ◌==◌, Bool, false, ◌&&◌, ◌||◌, List, map, Option, Some, None, if◌then◌else◌}
 use Rattle.std.specs.List.{list_any}
+use Rattle.lp_model.specs.declared.supply.SetOrigins.{SetOrigins}
 use Rattle.lp_spec_design.specs.Intents.{SetNumber, Domain, Named, BySet, Strategy, PortSupply, Intent}
 use Rattle.lp_spec_design.specs.Graph.{numbered}
 use Rattle.lp_spec_origins.specs.Commands.{Scoped, same_scoped, Supply, PortAt, NetAt, same_supply, Command, MakesSwitch}
-use Rattle.lp_spec_origins.specs.Sets.{SupplySet}
+use Rattle.lp_spec_origins.specs.Sets.{SupplySet, set_origins}
 
 abbrev pub is_set : SetNumber → Option SetNumber → Bool
 is_set k None = false
@@ -26,6 +27,10 @@ attribute_names k a = a.supply == k
 -- a set is used where a domain handle, a strategy or a port attribute names it
 abbrev pub is_used_set : Intent → SetNumber → Bool
 is_used_set i k = list_any (handle_names k) i.domains || (list_any (strategy_names k) i.strategies || (list_any (attribute_names k) i.drivers || list_any (attribute_names k) i.receivers))
+
+-- the sets of a supply network: the origins of each used set; any other has none, and so makes no origin a ground
+abbrev pub sets_of : List Command → ℕ → Intent → List SupplySet → List (Option SetOrigins)
+sets_of commands fuel i sets = map (λ x. if is_used_set i x.0 then set_origins commands fuel x.1 else None) (numbered 0 sets)
 
 abbrev pub is_net : Scoped → Option Scoped → Bool
 is_net n None = false

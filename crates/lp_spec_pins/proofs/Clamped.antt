@@ -13,6 +13,7 @@ use Rattle.lp_model.specs.declared.library.ShifterKind.TheVariants.{LowToHigh}
 use Rattle.lp_model.specs.NetlistView.{NetBit, ByName, ConnectionView, ModuleView}
 use Rattle.lp_model.specs.LibraryView.{ExprView, PinView, CellView}
 use Rattle.lp_spec_design.specs.Keys.{Name, Inner}
+use Rattle.lp_spec_design.specs.Nodes.{computing}
 use Rattle.lp_spec_design.specs.Settled.{Registers}
 use Rattle.lp_spec_pins.specs.Pins.{FromTop, is_zero_for, SupplyNodes, Surroundings, Powered, PinEvent, output_by_pins, computed_by_pins}
 use Rattle.lp_spec_pins.specs.Supplied.{is_supplied}
@@ -83,7 +84,7 @@ around margin = record {
 }
 
 abbrev pub written : ℕ → Powered
-written margin = record { structure = record { modules = outer ∷ inner ∷ []; cells = cells }; around = around margin; fuel = 12 }
+written margin = record { structure = record { modules = outer ∷ inner ∷ []; cells = cells }; around = around margin }
 
 -- the top's supply is on, the block's is given, and so is the ground
 abbrev pub event : Tern → Tern → SupplyState → PinEvent
@@ -102,41 +103,53 @@ abbrev pub y : PinEvent → Tern
 y ev = y_with 0 ev
 
 all_on : y (event Zero Zero (On 1000000)) ≡ One
+unfolding computing
 all_on = refl
 
 block_off : y (event Zero Zero Off) ≡ X
+unfolding computing
 block_off = refl
 
 block_off_and_clamped : y (event Zero One Off) ≡ Zero
+unfolding computing
 block_off_and_clamped = refl
 
 unknown_control_over_the_clamp_value : y (event One X (On 1000000)) ≡ Zero
+unfolding computing
 unknown_control_over_the_clamp_value = refl
 
 unknown_control_over_the_other : y (event Zero X (On 1000000)) ≡ X
+unfolding computing
 unknown_control_over_the_other = refl
 
 unknown_supply : y (event Zero Zero Unknown) ≡ X
+unfolding computing
 unknown_supply = refl
 
 -- a block that is lower than the clamp's supply is not read, but within the margin
 lower_block : y (event Zero Zero (On 800000)) ≡ X
+unfolding computing
 lower_block = refl
 
 within_the_margin : y_with 200000 (event Zero Zero (On 800000)) ≡ One
+unfolding computing
 within_the_margin = refl
 
 beyond_the_margin : y_with 199999 (event Zero Zero (On 800000)) ≡ X
+unfolding computing
 beyond_the_margin = refl
 
 -- a block that is higher than the top does not read the top's input
 higher_block : y (event Zero Zero (On 1200000)) ≡ X
+unfolding computing
 higher_block = refl
 
 higher_block_within_the_margin : y_with 200000 (event Zero Zero (On 1200000)) ≡ One
+unfolding computing
 higher_block_within_the_margin = refl
 
 all_supplied : is_supplied (written 0) ≡ true
+unfolding computing
 all_supplied = refl
 
 -- the same without the ports through which the block gets its supplies
@@ -144,7 +157,16 @@ abbrev unjoined : ModuleView
 unjoined = record inner { ports = port (codes "i") Input None ∷ port (codes "o") Output None ∷ [] }
 
 not_supplied : is_supplied (record (written 0) { structure = record { modules = outer ∷ unjoined ∷ []; cells = cells } }) ≡ false
+unfolding computing
 not_supplied = refl
+
+-- the supply net of the block has two sources: its port, and an assign
+abbrev twice_supplied : ModuleView
+twice_supplied = record inner { assigns = record { left = NetBit (codes "lp_v_VDC") ∷ []; right = NetBit (codes "lp_v_VDD") ∷ [] } ∷ [] }
+
+two_supplies : is_supplied (record (written 0) { structure = record { modules = outer ∷ twice_supplied ∷ []; cells = cells } }) ≡ false
+unfolding computing
+two_supplies = refl
 
 -- ---- pins on one source are on together
 
@@ -155,9 +177,11 @@ abbrev first_without_second : ExprView
 first_without_second = record { variables = codes "P" ∷ codes "Q" ∷ []; steps = Variable 0 ∷ Variable 1 ∷ Not ∷ And ∷ [] }
 
 one_source : is_zero_for two_powers first_without_second (Some (FromTop (codes "s")) ∷ Some (FromTop (codes "s")) ∷ []) (X ∷ X ∷ []) ≡ true
+unfolding computing
 one_source = refl
 
 two_sources : is_zero_for two_powers first_without_second (Some (FromTop (codes "s")) ∷ Some (FromTop (codes "t")) ∷ []) (X ∷ X ∷ []) ≡ false
+unfolding computing
 two_sources = refl
 
 -- a power and a ground pin on one source have complementary levels
@@ -165,6 +189,7 @@ abbrev power_with_ground : ExprView
 power_with_ground = record { variables = codes "P" ∷ codes "G" ∷ []; steps = Variable 0 ∷ Variable 1 ∷ And ∷ [] }
 
 complementary : is_zero_for two_powers power_with_ground (Some (FromTop (codes "s")) ∷ Some (FromTop (codes "s")) ∷ []) (X ∷ X ∷ []) ≡ true
+unfolding computing
 complementary = refl
 
 -- ---- a lower block with a level shifter from low to high before its clamp
@@ -192,14 +217,27 @@ abbrev shifted_y : PinEvent → Tern
 shifted_y ev = output_by_pins shifted (computed_by_pins shifted ev no_registers 14) (codes "y") None
 
 low_is_shifted : shifted_y (event Zero Zero (On 800000)) ≡ One
+unfolding computing
 low_is_shifted = refl
 
 low_off_is_clamped : shifted_y (event Zero One Off) ≡ Zero
+unfolding computing
 low_off_is_clamped = refl
 
 -- above its output a shifter from low to high is outside its type
-abbrev high_input : Powered
-high_input = record shifted { around = around 1000000 }
+abbrev high_y : CellView → Tern
+high_y c = let w = record shifted { structure = record { modules = outer ∷ shifted_inner ∷ []; cells = c ∷ cells }; around = around 1000000 } in output_by_pins w (computed_by_pins w (event Zero Zero (On 1200000)) no_registers 14) (codes "y") None
 
-high_is_outside : output_by_pins high_input (computed_by_pins high_input (event Zero Zero (On 1200000)) no_registers 14) (codes "y") None ≡ X
+high_is_outside : high_y shifter ≡ X
+unfolding computing
 high_is_outside = refl
+
+-- an output that bears the mark of the data is no data pin
+output_with_the_mark : high_y (record shifter { pins = record (pin (codes "Z") Output None) { power = 1; gnd = Some 2; use_of = ShiftData } ∷ shifter.pins }) ≡ X
+unfolding computing
+output_with_the_mark = refl
+
+-- with two data pins nothing is judged
+two_data_pins : high_y (record shifter { pins = record (pin (codes "B") Input None) { gnd = Some 2; use_of = ShiftData } ∷ shifter.pins }) ≡ One
+unfolding computing
+two_data_pins = refl

@@ -1,5 +1,5 @@
 -- A register with retention and a power switch by their pins, over events.
-use Rattle.std.proofs.Common.{◌≡◌, false, [], ◌∷◌, ◌++◌, Option, Some, None, refl}
+use Rattle.std.proofs.Common.{◌≡◌, List, false, [], ◌∷◌, ◌++◌, Option, Some, None, refl}
 use Rattle.std.specs.Prelude.{◌||◌, bytes_eq, if◌then◌else◌, codes}
 use Rattle.lp_tern.specs.declared.tern.Tern.{Tern}
 use Rattle.lp_tern.specs.declared.tern.Tern.TheVariants.{Zero, One, X}
@@ -9,12 +9,14 @@ use Rattle.lp_expr.specs.declared.step.Step.TheVariants.{Variable, Not, Or}
 use Rattle.lp_model.specs.declared.netlist.Direction.TheVariants.{Input, Output}
 use Rattle.lp_model.specs.declared.library.PgKind.TheVariants.{PrimaryPower, PrimaryGround, BackupPower, InternalPower}
 use Rattle.lp_model.specs.declared.library.PinUse.TheVariants.{Retain}
-use Rattle.lp_model.specs.declared.library.RetClass.TheVariants.{Save, Restore}
-use Rattle.lp_model.specs.declared.library.Action.TheVariants.{Rise}
+use Rattle.lp_model.specs.declared.library.RetClass.TheVariants.{Save, Restore, Both}
+use Rattle.lp_model.specs.declared.library.Action.TheVariants.{Rise, Fall}
+use Rattle.lp_model.specs.declared.library.Action.{Action}
 use Rattle.lp_model.specs.declared.library.StateKind.TheVariants.{Flop}
 use Rattle.lp_model.specs.NetlistView.{ByName, ModuleView}
 use Rattle.lp_model.specs.LibraryView.{ExprView, PinView, CellView}
 use Rattle.lp_spec_design.specs.Keys.{Name}
+use Rattle.lp_spec_design.specs.Nodes.{computing}
 use Rattle.lp_spec_pins.specs.Pins.{Surroundings, Powered, PinAssignment, PinEvent, output_by_pins, computed_by_pins}
 use Rattle.lp_spec_design.specs.Registers.{States}
 use Rattle.lp_spec_pins.specs.Registers.{states_after_by_pins}
@@ -88,7 +90,7 @@ around = record {
 }
 
 abbrev written : Powered
-written = record { structure = record { modules = outer ∷ inner ∷ []; cells = flop ∷ retaining_flop ∷ switch ∷ cells }; around = around; fuel = 12 }
+written = record { structure = record { modules = outer ∷ inner ∷ []; cells = flop ∷ retaining_flop ∷ switch ∷ cells }; around = around }
 
 abbrev event_with : SupplyState → Tern → Tern → Tern → Tern → SupplyState → PinEvent
 event_with spare ck en sv rs block = record {
@@ -130,41 +132,103 @@ abbrev restoring : PinEvent
 restoring = event Zero One Zero One (On 1000000)
 
 first : y idle X ≡ X
+unfolding computing
 first = refl
 
 after_first : next None idle X X ≡ (X, X)
+unfolding computing
 after_first = refl
 
 second : y clocked X ≡ X
+unfolding computing
 second = refl
 
 after_second : next (Some (settled idle X)) clocked X X ≡ (One, X)
+unfolding computing
 after_second = refl
 
 third : y saving One ≡ One
+unfolding computing
 third = refl
 
 after_third : next (Some (settled clocked X)) saving One X ≡ (One, One)
+unfolding computing
 after_third = refl
 
 fourth : y off One ≡ Zero
+unfolding computing
 fourth = refl
 
 after_fourth : next (Some (settled saving One)) off One One ≡ (X, One)
+unfolding computing
 after_fourth = refl
 
 fifth : y restoring X ≡ Zero
+unfolding computing
 fifth = refl
 
 after_fifth : next (Some (settled off One)) restoring X One ≡ (One, One)
+unfolding computing
 after_fifth = refl
 
 sixth : y idle One ≡ One
+unfolding computing
 sixth = refl
 
 -- where the retention supply is unknown while the block is off, the saved state is lost too
 after_fourth_unknown : next (Some (settled saving One)) (event_with Unknown Zero One Zero Zero Off) One One ≡ (X, X)
+unfolding computing
 after_fourth_unknown = refl
+
+-- ---- what the pins of a retention cell do goes by their class
+
+abbrev retaining_with : List PinView → Powered
+retaining_with pins = record written { structure = record { modules = outer ∷ inner ∷ []; cells = flop ∷ record retaining_flop { pins = flop.pins ++ pins } ∷ switch ∷ cells } }
+
+abbrev save_pin : Option Action → PinView
+save_pin restore = record (input (codes "SAVE")) { power = 2; use_of = Retain Save (Some Rise) restore }
+
+abbrev restore_pin : Option Action → PinView
+restore_pin save = record (input (codes "RST")) { power = 2; use_of = Retain Restore save (Some Rise) }
+
+-- what an event makes of a main and a saved state, after another event
+abbrev stepped : List PinView → PinEvent → PinEvent → Tern → Tern → Tern × Tern
+stepped pins before now m v = let w = retaining_with pins in of_register (states_after_by_pins w (Some (computed_by_pins w before (states m v).main 12)) (computed_by_pins w now (states m v).main 12) (states m v))
+
+-- a save pin that bears a restore action does not restore by it, and the restore pin does
+save_pin_restores_nothing : stepped (save_pin (Some Fall) ∷ restore_pin None ∷ []) saving idle Zero One ≡ (Zero, One)
+unfolding computing
+save_pin_restores_nothing = refl
+
+restore_pin_restores : stepped (save_pin (Some Fall) ∷ restore_pin None ∷ []) idle restoring Zero One ≡ (One, One)
+unfolding computing
+restore_pin_restores = refl
+
+-- a restore pin that bears a save action does not save by it
+restore_pin_saves_nothing : stepped (restore_pin (Some Rise) ∷ save_pin None ∷ []) idle restoring Zero One ≡ (One, One)
+unfolding computing
+restore_pin_saves_nothing = refl
+
+-- a cell without a restore pin never restores, and one without a save pin never saves
+no_restore_pin : stepped (save_pin None ∷ []) idle saving Zero One ≡ (Zero, Zero)
+unfolding computing
+no_restore_pin = refl
+
+no_save_pin : stepped (restore_pin None ∷ []) idle restoring Zero One ≡ (One, One)
+unfolding computing
+no_save_pin = refl
+
+-- a pin of both classes saves and restores
+abbrev one_pin : List PinView
+one_pin = record (input (codes "SAVE")) { power = 2; use_of = Retain Both (Some Rise) (Some Fall) } ∷ []
+
+one_pin_saves : stepped one_pin idle saving Zero One ≡ (Zero, Zero)
+unfolding computing
+one_pin_saves = refl
+
+one_pin_restores : stepped one_pin saving idle Zero One ≡ (One, One)
+unfolding computing
+one_pin_restores = refl
 
 -- ---- a block that is supplied through a switch
 
@@ -195,7 +259,7 @@ switched_outer = record {
 }
 
 abbrev switched : Powered
-switched = record { structure = record { modules = switched_outer ∷ plain_inner ∷ []; cells = flop ∷ switch ∷ cells }; around = around; fuel = 12 }
+switched = record { structure = record { modules = switched_outer ∷ plain_inner ∷ []; cells = flop ∷ switch ∷ cells }; around = around }
 
 abbrev all_zero : PinEvent
 all_zero = record { inputs = λ n j. Zero; supplies = λ n. if bytes_eq n (codes "lp_v_VSS") then On 0 else On 1000000 }
@@ -204,10 +268,13 @@ abbrev switched_y : Tern → Tern
 switched_y state = output_by_pins switched (computed_by_pins switched all_zero (states state X).main 12) (codes "y") None
 
 control_unknown : switched_y X ≡ X
+unfolding computing
 control_unknown = refl
 
 control_active : switched_y Zero ≡ One
+unfolding computing
 control_active = refl
 
 control_inactive : switched_y One ≡ X
+unfolding computing
 control_inactive = refl

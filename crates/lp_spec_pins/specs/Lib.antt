@@ -2,3 +2,5 @@ pub mod Pins
 pub mod Reads
 pub mod Registers
 pub mod Supplied
+pub mod Runs
+pub mod Alike

@@ -1,5 +1,5 @@
 -- A netlist judged by its pins: no domain, strategy or row occurs (Liberty pg_pin, related_power_pin, power_down_function, switch_function; own rule).
-use Rattle.std.specs.Prelude.{◌≡◌, ℕ, zero, suc, ◌+◌, ◌==◌, nat_le, nat_lt, Bool, true, false, not, ◌&&◌, ◌||◌, List, map, filter, Option, Some, None, option_and_then, if◌then◌else◌, bytes_eq, slice_get}
+use Rattle.std.specs.Prelude.{◌≡◌, ℕ, zero, suc, ◌==◌, nat_le, Bool, true, false, not, ◌&&◌, ◌||◌, List, [], ◌∷◌, map, filter, Option, Some, None, option_and_then, if◌then◌else◌, bytes_eq, slice_get}
 use Rattle.std.specs.List.{list_all, zip}
 use Rattle.lp_tern.specs.declared.tern.Tern.{Tern}
 use Rattle.lp_tern.specs.declared.tern.Tern.TheVariants.{Zero, One, X}
@@ -23,6 +23,7 @@ use Rattle.lp_behaviour.specs.Signals.{known}
 use Rattle.lp_spec_design.specs.Keys.{Name, Path, same_path, Node, Inner, Outer, Fixed, Source, CellPin, SwitchedPin, Environment, From}
 use Rattle.lp_spec_design.specs.Netlists.{Structure, first, cell_at}
 use Rattle.lp_spec_design.specs.Graph.{source_of, trail, beginning}
+use Rattle.lp_spec_design.specs.Nodes.{fuel_of}
 use Rattle.lp_spec_design.specs.Settled.{Value, Logic, State, Registers, logic_in, state_in, kept, is_on, pin_named, node_at_pin, output_by, function_value}
 
 -- ---- supplies
@@ -49,11 +50,10 @@ pub record Surroundings : Type 0 where
   pub receiver : Name → SupplyNodes
   pub margin : ℕ
 
--- the netlist with what surrounds it; the fuel is the number of its nodes
+-- the netlist with what surrounds it
 pub record Powered : Type 0 where
   pub structure : Structure
   pub around : Surroundings
-  pub fuel : ℕ
 
 pub data PinKey : Type 0 where
   Signal : Node → PinKey
@@ -68,7 +68,7 @@ signal_at B k = logic_in (B (Signal k))
 
 -- where the wire of a node begins
 abbrev pub begins : Powered → Node → Node
-begins w k = beginning k (trail w.structure w.fuel k)
+begins w k = beginning k (trail w.structure (fuel_of w.structure) k)
 
 abbrev pub supply_begun : Powered → Node → Option Source → Option SupplySource
 supply_begun w (Outer n j) (Some Environment) = if w.around.is_supply n then Some (FromTop n) else None
@@ -253,12 +253,23 @@ microvolts _ = 0
 abbrev pub is_outside : Shifter → Pair → Pair → Bool
 is_outside f r t = pair_on r && (pair_on t && not (takes f (microvolts r.power) (microvolts t.power)))
 
+-- the pin bears the mark of a shifter's data (Liberty level_shifter_data_pin)
 abbrev pub is_data : PinView → Bool
 is_data q = by q.use_of
   where
     by : PinUse → Bool
     by ShiftData = true
     by _ = false
+
+-- the one of a list, where it has exactly one
+abbrev pub only : {A : Type 0} → List A → Option A
+only [] = None
+only (x ∷ []) = Some x
+only (x ∷ y ∷ rest) = None
+
+-- the one input of a use; an output that bears the mark is none
+abbrev pub input_for : (PinView → Bool) → CellView → Option PinView
+input_for purpose c = only (filter (λ q. is_input_pin q && purpose q) c.pins)
 
 abbrev pub driving_pin : Powered → PinAssignment → Option Node → Option Pair
 driving_pin w B None = None
@@ -278,8 +289,9 @@ is_unfit_at w B p x c out None input = false
 is_unfit_at w B p x c out (Some f) None = false
 is_unfit_at w B p x c out (Some f) (Some input) = outside_by f (input_supply w B p x c input (input.power == out.power)) (related w B p x c out)
 
+-- without one data pin nothing is judged
 abbrev pub is_unfit : Powered → PinAssignment → Path → Name → CellView → PinView → Bool
-is_unfit w B p x c out = is_unfit_at w B p x c out c.roles.shifter (first is_data c.pins)
+is_unfit w B p x c out = is_unfit_at w B p x c out c.roles.shifter (input_for is_data c)
 
 -- ---- equations
 

@@ -7,11 +7,11 @@ use Rattle.lp_spec_settling.specs.Settling.{Keys}
 use Rattle.lp_model.specs.declared.library.Shifter.{Shifter}
 use Rattle.lp_model.specs.LibraryView.{ExprView, SwitchedView, PgPinView, PinView, CellView}
 use Rattle.lp_spec_design.specs.Keys.{Name, Path, same_path, Node, Inner, Outer, Fixed, same_node, Source, CellPin, SwitchedPin, Environment, From}
-use Rattle.lp_spec_design.specs.Netlists.{first, cell_at}
+use Rattle.lp_spec_design.specs.Netlists.{cell_at}
 use Rattle.lp_spec_design.specs.Graph.{source_of}
 use Rattle.lp_spec_design.specs.Settled.{pin_named, node_at_pin}
 use Rattle.lp_spec_design.specs.Reads.{one, other, both, name-true, name-self, path-true, path-self, node-true, node-self}
-use Rattle.lp_spec_pins.specs.Pins.{SupplySource, FromTop, FromSwitched, same_source, SupplyNodes, Powered, PinKey, Signal, Supply, begins, supply_of_node, source_of_pg, pg_named, sources_named, is_data, is_input_pin, switched_of}
+use Rattle.lp_spec_pins.specs.Pins.{SupplySource, FromTop, FromSwitched, same_source, SupplyNodes, Powered, PinKey, Signal, Supply, begins, supply_of_node, source_of_pg, pg_named, sources_named, input_for, is_data, is_input_pin, switched_of}
 
 -- ---- supplies
 
@@ -99,7 +99,7 @@ unfit_keys_at w p x c out (Some f) None = []
 unfit_keys_at w p x c out (Some f) (Some input) = shifted_keys w p x c input (input.power == out.power) ++ related_keys w p x c out
 
 abbrev pub unfit_keys : Powered → Path → Name → CellView → PinView → List PinKey
-unfit_keys w p x c out = unfit_keys_at w p x c out c.roles.shifter (first is_data c.pins)
+unfit_keys w p x c out = unfit_keys_at w p x c out c.roles.shifter (input_for is_data c)
 
 abbrev pub output_keys : Powered → Path → Name → CellView → Option PinView → List PinKey
 output_keys w p x c None = []

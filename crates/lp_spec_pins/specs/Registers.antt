@@ -1,26 +1,30 @@
 -- The states of registers after an event, by pins (Liberty ff, latch and retention_cell; own rule).
-use Rattle.std.specs.Prelude.{◌≡◌, Bool, List, [], ◌∷◌, Option, Some, None, option_and_then, is_some}
+use Rattle.std.specs.Prelude.{Bool, Option, Some, None, option_and_then, is_some}
 use Rattle.lp_tern.specs.declared.tern.Tern.{Tern}
-use Rattle.lp_tern.specs.declared.tern.Tern.TheVariants.{X}
+use Rattle.lp_tern.specs.declared.tern.Tern.TheVariants.{Zero, X}
 use Rattle.lp_model.specs.declared.library.Action.{Action}
 use Rattle.lp_model.specs.declared.library.PinUse.{PinUse}
 use Rattle.lp_model.specs.declared.library.PinUse.TheVariants.{Retain}
+use Rattle.lp_model.specs.declared.library.RetClass.TheVariants.{Save, Restore, Both}
 use Rattle.lp_model.specs.LibraryView.{ExprView, StateView, PinView, CellView}
 use Rattle.lp_behaviour.specs.Registers.{fires_of, main_of, copy_of}
 use Rattle.lp_spec_design.specs.Keys.{Name, Path}
 use Rattle.lp_spec_design.specs.Netlists.{first, cell_at}
 use Rattle.lp_spec_design.specs.Settled.{kept}
 use Rattle.lp_spec_design.specs.Registers.{States, cell_after}
-use Rattle.lp_spec_pins.specs.Pins.{Powered, PinAssignment, PinEvent, pins_read, is_up, SettlesPins}
+use Rattle.lp_spec_pins.specs.Pins.{Powered, PinAssignment, pins_read, is_up}
 
 -- ---- retention pins
 
+-- by class: a pin of class save only saves, and one of class restore only restores, whatever other action it bears (Liberty retention_pin)
 abbrev pub save_of : PinUse → Option Action
-save_of (Retain class save restore) = save
+save_of (Retain Save save restore) = save
+save_of (Retain Both save restore) = save
 save_of _ = None
 
 abbrev pub restore_of : PinUse → Option Action
-restore_of (Retain class save restore) = restore
+restore_of (Retain Restore save restore) = restore
+restore_of (Retain Both save restore) = restore
 restore_of _ = None
 
 abbrev pub acting : (PinUse → Option Action) → CellView → Option PinView
@@ -31,12 +35,13 @@ abbrev pub read_before : Powered → Option PinAssignment → Path → Name → 
 read_before w None p x c v = X
 read_before w (Some B) p x c v = pins_read w B p x c v
 
+-- an action that a cell lacks does not take place
 abbrev pub fires_by : Option Action → Tern → Tern → Tern
-fires_by None last now = X
+fires_by None last now = Zero
 fires_by (Some action) last now = fires_of action last now
 
 abbrev pub fires_at_pin : (PinUse → Option Action) → (Name → Tern) → (Name → Tern) → Option PinView → Tern
-fires_at_pin action last now None = X
+fires_at_pin action last now None = Zero
 fires_at_pin action last now (Some q) = fires_by (action q.use_of) (last q.name) (now q.name)
 
 -- whether a cell's pins save or restore
@@ -73,18 +78,3 @@ states_after_by_pins w last B s = record {
   main = λ p x. main_in w last B s p x (cell_at w.structure p x);
   saved = λ p x. saved_in w last B s p x (cell_at w.structure p x);
 }
-
--- ---- runs
-
--- an assignment for each event: it settles with the present states, and leads to the next ones
-abbrev pub IsRunByPins : Powered → Option PinAssignment → States → List PinEvent → List PinAssignment → Type 0
-IsRunByPins w last s [] [] = Unit {0}
-IsRunByPins w last s (ev ∷ events) (B ∷ more) = SettlesPins w ev s.main B × IsRunByPins w (Some B) (states_after_by_pins w last B s) events more
-IsRunByPins w last s [] (B ∷ more) = ⊥
-IsRunByPins w last s (ev ∷ events) [] = ⊥
-
--- there is a run, and it is the only one
-pub record RunsOnceByPins (w : Powered) (last : Option PinAssignment) (s : States) (events : List PinEvent) : Type 0 where
-  pub run : List PinAssignment
-  pub is_run : IsRunByPins w last s events run
-  pub only : (other : List PinAssignment) → IsRunByPins w last s events other → other ≡ run

@@ -87,7 +87,7 @@ module _ (c : CellView) where
     module _ (w : Powered) (p : Path) (x : Name) (power gnd : Name) (apart : bytes_eq power gnd ≡ false) (apart_too : bytes_eq gnd power ≡ false) (joined : AllByRecursion (IsJoined w p x power gnd) c.pgs) where
       source-kind : (v : Name) (g : Option PgPinView) → pg_named c v ≡ g → is_some g ≡ true → source_of_pg w p x g ≡ source_of_kind power gnd apart apart_too (is_power_at g)
       source-kind v None at e = absurd (false≢true e)
-      source-kind v (Some g) at e = AllByRecursion-first (IsJoined w p x power gnd) (λ (h : PgPinView). bytes_eq h.name v) c.pgs g joined at
+      source-kind v (Some g) at e = (AllByRecursion-first (IsJoined w p x power gnd) (λ (h : PgPinView). bytes_eq h.name v) c.pgs g joined at).0
 
       sources-kinds : (vs : List Name) → AllNamed vs → sources_named w p x c vs ≡ map (source_of_kind power gnd apart apart_too) (map kind vs)
       unfolding kind

@@ -6,16 +6,18 @@ use Rattle.lp_tern.specs.declared.tern.Tern.TheVariants.{X}
 use Rattle.lp_model.specs.LibraryView.{ExprView, PinView, CellView}
 use Rattle.lp_spec_design.specs.Keys.{Name, Path, Node, Inner, Outer, Fixed, Way, Source, CellPin, SwitchedPin, Environment, From}
 use Rattle.lp_spec_design.specs.Netlists.{first, cell_at}
+use Rattle.lp_spec_design.specs.Nodes.{fuel_of}
 use Rattle.lp_spec_design.specs.Graph.{source_of, trail}
 use Rattle.lp_spec_design.specs.Intents.{SetNumber, SupplySet}
 use Rattle.lp_spec_design.specs.Domains.{start_rail, source_supply}
-use Rattle.lp_spec_design.specs.Chains.{rail, rail_along, rail_after}
-use Rattle.lp_spec_design.specs.Settled.{Assignment, Design, Event, Registers, at, state_of, is_on, both_on, set_at, set_on, sets_under, is_under, kept, through, pin_named, output_by, output_of, node_equation, pins_at}
+use Rattle.lp_spec_design.specs.Chains.{rail_along, rail_after}
+use Rattle.lp_spec_design.specs.Settled.{Assignment, Design, Event, Registers, at, state_of, is_on, both_on, set_at, set_on, sets_under, is_under, kept, through, pin_named, output_by, output_of, node_equation, pins_at, rail_of}
+use Rattle.lp_spec_design.specs.Runs.{shown}
 use Rattle.lp_spec_pins.specs.Pins.{FromTop, Powered, PinAssignment, PinEvent, pair_on, signal_at, state_from, read_by, is_up, is_data, is_unfit, is_unfit_at, output_at, cell_output_at, top_input, signal_equation, pins_read}
+use Rattle.lp_spec_pins.specs.Runs.{shown_by_pins}
 use Rattle.lp_spec_plain.specs.Cells.{follows}
 use Rattle.lp_spec_plain.specs.Designs.{supply_at, driver_of, receiver_of, IsPlain}
 use Rattle.lp_spec_plain.specs.Carried.{Carries}
-use Rattle.lp_spec_plain.specs.Alike.{shown, shown_by_pins}
 use Rattle.lp_spec_plain.proofs.Down.{up_where_on}
 use Rattle.lp_spec_plain.proofs.Reading.{under_self, kept-lost, promises, pin_follows, apart_too, ports, driver_ports, receiver_ports, read_as_is, pins-same, output-same}
 
@@ -83,7 +85,7 @@ module _ (d : Design) (one : SupplySet) (plain : IsPlain d one) (w : Powered) (o
       node_same (Fixed b) e (Some Environment) is = refl
       node_same k e (Some (From way j)) is =
           alike.same j (carries.from_own k j way e is)
-          ∙ ap (through d.network d.intent A (at A j)) (sym (plain.no_operator way (rail d.structure d.network d.intent d.fuel j)))
+          ∙ ap (through d.network d.intent A (at A j)) (sym (plain.no_operator way (rail_of d j)))
 
       pub signal_same : (k : Node) → own k ≡ true → signal_equation w pe regs B k (source_of w.structure k) ≡ node_equation d ev regs A k (source_of d.structure k)
       signal_same k e = ap (signal_equation w pe regs B k) (carries.same_source k e) ∙ node_same k e (source_of d.structure k) refl
@@ -102,11 +104,11 @@ module _ (d : Design) (one : SupplySet) (plain : IsPlain d one) (w : Powered) (o
     rail_begun k (Some (SwitchedPin p x g)) = inl refl
     rail_begun k (Some (From way j)) = inl refl
 
-    rail_one : (k : Node) (back : List (Way × Node)) → IsOne (rail_along d.structure d.network d.intent d.fuel k back)
+    rail_one : (k : Node) (back : List (Way × Node)) → IsOne (rail_along d.structure d.network d.intent (fuel_of d.structure) k back)
     rail_one k [] = rail_begun k (source_of d.structure k)
     rail_one k (step ∷ back) =
-        subst (λ operators. IsOne (rail_after (rail_along d.structure d.network d.intent d.fuel step.1 back) operators))
-        (sym (plain.no_operator step.0 (rail_along d.structure d.network d.intent d.fuel step.1 back)))
+        subst (λ operators. IsOne (rail_after (rail_along d.structure d.network d.intent (fuel_of d.structure) step.1 back) operators))
+        (sym (plain.no_operator step.0 (rail_along d.structure d.network d.intent (fuel_of d.structure) step.1 back)))
         (rail_one step.1 back)
 
     not_under : (r : Option SetNumber) → IsOne r → (n : Name) → is_under d.network A r (receiver_of d n) ≡ false
@@ -117,7 +119,7 @@ module _ (d : Design) (one : SupplySet) (plain : IsPlain d one) (w : Powered) (o
 
     pub output_same : (b : Name × Option ℕ) → own (Outer b.0 b.1) ≡ true → shown d A b ≡ shown_by_pins w B b
     output_same b e =
-        ap (λ u. if u then X else at A (Outer b.0 b.1)) (not_under (rail d.structure d.network d.intent d.fuel (Outer b.0 b.1)) (rail_one (Outer b.0 b.1) (trail d.structure d.fuel (Outer b.0 b.1))) b.0)
+        ap (λ u. if u then X else at A (Outer b.0 b.1)) (not_under (rail_of d (Outer b.0 b.1)) (rail_one (Outer b.0 b.1) (trail d.structure (fuel_of d.structure) (Outer b.0 b.1))) b.0)
         ∙ sym (ap (read_by w B (Outer b.0 b.1)) (receiver_ports d one plain w own power gnd carries B b.0)
         ∙ (read_as_is d one plain w own power gnd carries B (Outer b.0 b.1) e
         ∙ alike.same (Outer b.0 b.1) e))

@@ -14,11 +14,12 @@ use Rattle.lp_model.specs.LibraryView.{ExprView, PgPinView, PinView, CellView}
 use Rattle.lp_rows.specs.Voltages.{under_of}
 use Rattle.lp_spec_design.specs.Keys.{Name, Path, Node, Inner, Outer, Fixed, Source, CellPin, SwitchedPin, Environment, From}
 use Rattle.lp_spec_design.specs.Netlists.{first, cell_at}
+use Rattle.lp_spec_design.specs.Nodes.{fuel_of}
 use Rattle.lp_spec_design.specs.Graph.{source_of, trail, going_back, way_in, beginning}
 use Rattle.lp_spec_design.specs.Intents.{SupplySet}
 use Rattle.lp_spec_design.specs.Settled.{Assignment, Design, at, at_some, kept, pin_named, state_named, value_named, named_value, function_value, output_by, node_at_pin, pins_at}
 use Rattle.lp_spec_pins.specs.Pins.{FromTop, SupplyNodes, Powered, PinAssignment, Pair, state_from, state_pair, signal_at, begins, supply_begun, supply_of_node, state_of_pg, state_of_ground, related, related_of_pin, related_of, pin_supply_begun, driver_begun, driving, some_under, is_joined, read_by, is_power, is_input_pin, input_value, pin_value, pins_read}
-use Rattle.lp_spec_plain.specs.Cells.{follows, is_power_at, is_ground_at, has_ground, is_plain_pin, is_plain_state, is_plain_cell}
+use Rattle.lp_spec_plain.specs.Cells.{follows, is_power_at, is_ground_at, has_ground, is_related_pin, is_plain_state, loses_with_supply, takes_one_supply, is_plain_cell}
 use Rattle.lp_spec_plain.specs.Designs.{IsPlain}
 use Rattle.lp_spec_plain.specs.Carried.{IsJoined, AreJoined, Carries}
 use Rattle.lp_spec_plain.proofs.Down.{AllByRecursion-get}
@@ -52,35 +53,38 @@ pub record Promises (c : CellView) : Type 0 where
   pub no_shifter : c.roles.shifter ≡ None
   pub no_retention : c.roles.retention ≡ None
   pub no_switched : list_all (λ (g : PgPinView). is_none g.switched) c.pgs ≡ true
-  pub plain_pins : list_all (is_plain_pin c) c.pins ≡ true
+  pub related_pins : list_all (is_related_pin c) c.pins ≡ true
+  pub lost_pins : list_all (λ (q : PinView). follows c q.function q.power_down) c.pins ≡ true
   pub plain_state : is_plain_state c c.state ≡ true
 
 pub promises : (c : CellView) → is_plain_cell c ≡ true → Promises c
 promises c plain =
-    let shifter = and_parts _ _ plain in
+    let both = and_parts (takes_one_supply c) (loses_with_supply c) plain in
+    let shifter = and_parts _ _ both.0 in
     let retention = and_parts _ _ shifter.1 in
     let switched = and_parts _ _ retention.1 in
-    let pins = and_parts _ _ switched.1 in
+    let lost = and_parts _ _ both.1 in
     record {
       no_shifter = none-of c.roles.shifter shifter.0;
       no_retention = none-of c.roles.retention retention.0;
       no_switched = switched.0;
-      plain_pins = pins.0;
-      plain_state = pins.1;
+      related_pins = switched.1;
+      lost_pins = lost.0;
+      plain_state = lost.1;
     }
 
-module _ (c : CellView) (plain : is_plain_cell c ≡ true) where
-  plain_pin : (v : Name) (q : PinView) → pin_named c v ≡ Some q → is_plain_pin c q ≡ true
-  plain_pin v q e = all-first (is_plain_pin c) (λ (r : PinView). bytes_eq r.name v) c.pins q (promises c plain).plain_pins e
+module _ (c : CellView) (plain : is_plain_cell c ≡ true) (v : Name) (q : PinView) (named : pin_named c v ≡ Some q) where
+  related_pin : is_related_pin c q ≡ true
+  related_pin = all-first (is_related_pin c) (λ (r : PinView). bytes_eq r.name v) c.pins q (promises c plain).related_pins named
 
-  pub pin_power : (v : Name) (q : PinView) → pin_named c v ≡ Some q → is_power_at (slice_get c.pgs q.power) ≡ true
-  pin_power v q e = (and_parts _ _ (plain_pin v q e)).0
+  pub pin_power : is_power_at (slice_get c.pgs q.power) ≡ true
+  pin_power = (and_parts (is_power_at (slice_get c.pgs q.power)) (has_ground c q.gnd) related_pin).0
 
-  pub pin_ground : (v : Name) (q : PinView) → pin_named c v ≡ Some q → has_ground c q.gnd ≡ true
-  pin_ground v q e = (and_parts _ _ (and_parts _ _ (plain_pin v q e)).1).0
+  pub pin_ground : has_ground c q.gnd ≡ true
+  pin_ground = (and_parts (is_power_at (slice_get c.pgs q.power)) (has_ground c q.gnd) related_pin).1
 
-  pub pin_follows : (v : Name) (q : PinView) → pin_named c v ≡ Some q → follows c q.function q.power_down ≡ true
-  pin_follows v q e = (and_parts _ _ (and_parts _ _ (plain_pin v q e)).1).1
+  pub pin_follows : follows c q.function q.power_down ≡ true
+  pin_follows = all-first (λ (r : PinView). follows c r.function r.power_down) (λ (r : PinView). bytes_eq r.name v) c.pins q (promises c plain).lost_pins named
 
 module _ (d : Design) (one : SupplySet) (plain : IsPlain d one) (w : Powered) (own : Node → Bool) (power gnd : Name) (carries : Carries d w own power gnd) where
   pub apart_too : bytes_eq gnd power ≡ false
@@ -99,7 +103,7 @@ module _ (d : Design) (one : SupplySet) (plain : IsPlain d one) (w : Powered) (o
       by (Some (From way j)) is more = more j (carries.from_own k j way e is)
 
   begins-own : (k : Node) → own k ≡ true → own (begins w k) ≡ true
-  begins-own k e = beginning-own w.fuel k e
+  begins-own k e = beginning-own (fuel_of w.structure) k e
 
   begun_in : (k : Node) → own k ≡ true → source_of w.structure (begins w k) ≡ source_of d.structure (begins w k)
   begun_in k e = carries.same_source (begins w k) (begins-own k e)
@@ -143,11 +147,11 @@ module _ (d : Design) (one : SupplySet) (plain : IsPlain d one) (w : Powered) (o
 
       power_state : (n : ℕ) (g : Option PgPinView) → slice_get c.pgs n ≡ g → is_power_at g ≡ true → state_of_pg w B p x g ≡ ports.power
       power_state n None is e = absurd (false≢true e)
-      power_state n (Some g) is e = ap (state_from B) (AllByRecursion-get (IsJoined w p x power gnd) c.pgs n g (carries.cells_joined p x c cell) is) ∙ ap (λ b. state_from B (Some (FromTop (cond b power gnd)))) e
+      power_state n (Some g) is e = ap (state_from B) (AllByRecursion-get (IsJoined w p x power gnd) c.pgs n g (carries.cells_joined p x c cell) is).0 ∙ ap (λ b. state_from B (Some (FromTop (cond b power gnd)))) e
 
       ground_state : (n : ℕ) (g : Option PgPinView) → slice_get c.pgs n ≡ g → is_ground_at g ≡ true → state_of_pg w B p x g ≡ ports.gnd
       ground_state n None is e = absurd (false≢true e)
-      ground_state n (Some g) is e = ap (state_from B) (AllByRecursion-get (IsJoined w p x power gnd) c.pgs n g (carries.cells_joined p x c cell) is) ∙ by (is_power g.kind) e
+      ground_state n (Some g) is e = ap (state_from B) (AllByRecursion-get (IsJoined w p x power gnd) c.pgs n g (carries.cells_joined p x c cell) is).0 ∙ by (is_power g.kind) e
         where
           by : (b : Bool) → not b ≡ true → state_from B (Some (FromTop (cond b power gnd))) ≡ ports.gnd
           by true f = absurd (false≢true f)

@@ -5,9 +5,12 @@ use Rattle.lp_model.specs.LibraryView.{PgPinView, PinView, CellView}
 use Rattle.lp_spec_design.specs.Keys.{Name, Path, Node, Outer, Fixed, Way, Environment, From}
 use Rattle.lp_spec_design.specs.Netlists.{cell_at}
 use Rattle.lp_spec_design.specs.Graph.{source_of}
+use Rattle.lp_spec_design.specs.Intents.{SupplySet}
 use Rattle.lp_spec_design.specs.Settled.{Design, pin_named, node_at_pin}
+use Rattle.lp_spec_design.specs.Runs.{output_bits}
 use Rattle.lp_spec_pins.specs.Pins.{FromTop, SupplyNodes, Powered, is_power, supply_of_node, supply_of_pin}
-use Rattle.lp_spec_plain.specs.Alike.{output_bits}
+use Rattle.lp_spec_pins.specs.Supplied.{is_single}
+use Rattle.lp_spec_plain.specs.Designs.{IsPlain}
 
 -- a node that the design lacks is reached from a supply port over such nodes, or from nothing
 pub data LeadsFromPort (w : Powered) (own : Node → Bool) : Node → Type 0 where
@@ -15,12 +18,12 @@ pub data LeadsFromPort (w : Powered) (own : Node → Bool) : Node → Type 0 whe
   AtPort : (n : Name) (j : Option ℕ) → w.around.is_supply n ≡ true → source_of w.structure (Outer n j) ≡ Some Environment → LeadsFromPort w own (Outer n j)
   Along : (k j : Node) (way : Way) → own j ≡ false → source_of w.structure k ≡ Some (From way j) → LeadsFromPort w own j → LeadsFromPort w own k
 
--- the supply port that a power or ground pin is joined to
+-- the supply port that a power or ground pin is joined to, by one source at each node of the way
 abbrev pub port_for : Name → Name → PgPinView → Name
 port_for power gnd g = if is_power g.kind then power else gnd
 
 abbrev pub IsJoined : Powered → Path → Name → Name → Name → PgPinView → Type 0
-IsJoined w p x power gnd g = supply_of_pin w p x g.name ≡ Some (FromTop (port_for power gnd g))
+IsJoined w p x power gnd g = (supply_of_pin w p x g.name ≡ Some (FromTop (port_for power gnd g))) × IsTrue (is_single w (node_at_pin w.structure p x g.name))
 
 abbrev pub AreJoined : Powered → SupplyNodes → Name → Name → Type 0
 AreJoined w s power gnd = (supply_of_node w s.power ≡ Some (FromTop power)) × (supply_of_node w s.gnd ≡ Some (FromTop gnd))
@@ -45,3 +48,14 @@ pub record Carries (d : Design) (w : Powered) (own : Node → Bool) (power gnd :
   pub drivers_joined : (n : Name) → AreJoined w (w.around.driver n) power gnd
   pub receivers_joined : (n : Name) → AreJoined w (w.around.receiver n) power gnd
   pub apart : bytes_eq power gnd ≡ false
+
+-- a plain design, and a netlist that carries it, whose two supply ports are those of the one supply
+pub record CarriesPlain (d : Design) (w : Powered) (origin : Name → ℕ) : Type 0 where
+  pub one : SupplySet
+  pub plain : IsPlain d one
+  pub own : Node → Bool
+  pub power : Name
+  pub gnd : Name
+  pub carries : Carries d w own power gnd
+  pub power_is : origin power ≡ one.power
+  pub gnd_is : origin gnd ≡ one.gnd

@@ -42,17 +42,25 @@ follows c None down = true
 follows c (Some f) None = false
 follows c (Some f) (Some e) = follows_supply c e
 
-abbrev pub is_plain_pin : CellView → PinView → Bool
-is_plain_pin c q = is_power_at (slice_get c.pgs q.power) && (has_ground c q.gnd && follows c q.function q.power_down)
+-- a pin relates to a power and a ground pin
+abbrev pub is_related_pin : CellView → PinView → Bool
+is_related_pin c q = is_power_at (slice_get c.pgs q.power) && has_ground c q.gnd
 
 abbrev pub is_plain_state : CellView → Option StateView → Bool
 is_plain_state c None = true
 is_plain_state c (Some g) = follows_supply c g.power_down
 
--- no level shifter, no retention, nothing switched; each pin relates to a power and a ground pin; outputs and state are lost exactly where the supply is not on
-abbrev pub is_plain_cell : CellView → Bool
-is_plain_cell c =
+-- outputs and state are lost exactly where the supply is not on
+abbrev pub loses_with_supply : CellView → Bool
+loses_with_supply c = list_all (λ (q : PinView). follows c q.function q.power_down) c.pins && is_plain_state c c.state
+
+-- no level shifter, no retention, nothing switched; each pin relates to a power and a ground pin
+abbrev pub takes_one_supply : CellView → Bool
+takes_one_supply c =
     is_none c.roles.shifter
     && (is_none c.roles.retention
     && (list_all (λ (g : PgPinView). is_none g.switched) c.pgs
-    && (list_all (is_plain_pin c) c.pins && is_plain_state c c.state)))
+    && list_all (is_related_pin c) c.pins))
+
+abbrev pub is_plain_cell : CellView → Bool
+is_plain_cell c = takes_one_supply c && loses_with_supply c

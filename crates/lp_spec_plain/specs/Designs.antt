@@ -6,8 +6,7 @@ use Rattle.lp_spec_design.specs.Netlists.{cell_at}
 use Rattle.lp_spec_design.specs.Graph.{source_of}
 use Rattle.lp_spec_design.specs.Intents.{SetNumber, SupplySet, FromPort, FromSwitch}
 use Rattle.lp_spec_design.specs.Domains.{domain_of, primary_of, supply_of_port}
-use Rattle.lp_spec_design.specs.Chains.{operators_at}
-use Rattle.lp_spec_design.specs.Settled.{Design, set_at}
+use Rattle.lp_spec_design.specs.Settled.{Design, set_at, operators_of}
 use Rattle.lp_spec_design.specs.Registers.{retention}
 use Rattle.lp_spec_plain.specs.Cells.{is_plain_cell}
 
@@ -23,7 +22,7 @@ receiver_of d n = supply_of_port d.intent.receivers n (supply_at d [])
 
 -- no way has an operator, no register is retained, nothing is switched, and every cell, driver and receiver has this one supply, whose power and ground come from ports
 pub record IsPlain (d : Design) (one : SupplySet) : Type 0 where
-  pub no_operator : (w : Way) (r : Option SetNumber) → operators_at d.structure d.network d.intent d.fuel w r ≡ []
+  pub no_operator : (w : Way) (r : Option SetNumber) → operators_of d w r ≡ []
   pub no_retention : (p : Path) (x : Name) → retention d.intent p x ≡ None
   pub no_switch : (o input : ℕ) (control : Node) (high : Bool) → slice_get d.network.origins o ≡ Some (FromSwitch input control high) → ⊥
   pub no_switched_pin : (k : Node) (p : Path) (x g : Name) → source_of d.structure k ≡ Some (SwitchedPin p x g) → ⊥

@@ -12,10 +12,11 @@ use Rattle.lp_spec_design.specs.Netlists.{Structure, instance_named, cell_at, in
 use Rattle.lp_spec_design.specs.Graph.{pin_node}
 use Rattle.lp_spec_design.specs.Settled.{pin_named, node_at_pin}
 use Rattle.lp_spec_pins.specs.Pins.{is_power, supply_of_node}
+use Rattle.lp_spec_pins.specs.Supplied.{is_single}
 use Rattle.lp_spec_plain.specs.Cells.{is_plain_cell}
 use Rattle.lp_spec_plain.specs.Designs.{IsPlain}
 use Rattle.lp_spec_plain.specs.Carried.{IsJoined, Carries}
-use Rattle.lp_spec_plain.specs.Alike.{output_bits}
+use Rattle.lp_spec_design.specs.Runs.{output_bits}
 use Rattle.lp_spec_plain.proofs.Reading.{all-first}
 use Rattle.lp_spec_plain_module.specs.Designs.{Flat, one_set, design_of}
 use Rattle.lp_spec_plain_module.specs.Netlists.{power_port, ground_port, port_of_pin, joined, joins_of, with_joins, powered_instance, is_supply, netlist_of, is_own}
@@ -23,7 +24,7 @@ use Rattle.lp_spec_plain_module.specs.Tests.{is_pg_name, is_free_bit, is_free_co
 use Rattle.lp_spec_plain_module.proofs.Lists.{all-weaker, found-passes, joins-each}
 use Rattle.lp_spec_plain_module.proofs.Graphs.{source, written, ports_apart, ports_free, power_is, ground_is, top, top_written, instance_written, same_cell, no_cell, CellInstance, at_cell, plain_is, free, pins_apart, pgs_distinct}
 use Rattle.lp_spec_plain_module.proofs.Sources.{free-own, connected_same, connected_free}
-use Rattle.lp_spec_plain_module.proofs.Supplies.{same_source, no_source, good_source, others, port_supply, net_supply}
+use Rattle.lp_spec_plain_module.proofs.Supplies.{same_source, no_source, good_source, others, port_supply, net_supply, net_single}
 use Rattle.lp_spec_plain_module.proofs.Plain.{no_operator, no_retention, no_switch, cells_supplied}
 
 AllByRecursion-map : {A : Type 0} (P Q : A → Type 0) → ((x : A) → P x → Q x) → (xs : List A) → AllByRecursion P xs → AllByRecursion Q xs
@@ -95,8 +96,10 @@ module _ (f : Flat) (flat : is_flat f ≡ true) where
 
     joined_by : (g : PgPinView) → Has (powered_instance f at.instance).connections g → IsJoined (netlist_of f) [] x (power_port f) (ground_port f) g
     joined_by g has =
-        ap (λ o. option_and_then (supply_of_node (netlist_of f)) o) (pin_of_written g.name ∙ pin_by g.name (powered_instance f at.instance).connections (NetBit (port_of_pin f g) ∷ []) has)
-        ∙ net_supply f flat (port_of_pin f g) (port_is g)
+        let node = pin_of_written g.name ∙ pin_by g.name (powered_instance f at.instance).connections (NetBit (port_of_pin f g) ∷ []) has in (
+          ap (λ o. option_and_then (supply_of_node (netlist_of f)) o) node ∙ net_supply f flat (port_of_pin f g) (port_is g),
+          ap (is_single (netlist_of f)) node ∙ net_single f flat (port_of_pin f g) (port_is g),
+        )
 
     has_joins : (cs : ConnectionsView) → are_free f c cs ≡ true → AllByRecursion (Has (with_joins (map (joined f) c.pgs) cs)) c.pgs
     has_joins (ByName cs) e =

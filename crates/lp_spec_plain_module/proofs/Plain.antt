@@ -3,11 +3,12 @@ use Rattle.std.proofs.Common.{◌≡◌, ℕ, zero, suc, Bool, true, false, cond
 use Rattle.std.specs.Prelude.{slice_get}
 use Rattle.lp_spec_design.specs.Keys.{Name, Path, Node, Way}
 use Rattle.lp_spec_design.specs.Netlists.{is_input}
+use Rattle.lp_spec_design.specs.Nodes.{fuel_of}
 use Rattle.lp_spec_design.specs.Intents.{SetNumber, FromSwitch, Network}
 use Rattle.lp_spec_design.specs.Domains.{BoundaryBit, domain_of, primary_of}
 use Rattle.lp_spec_design.specs.Winners.{crossing}
-use Rattle.lp_spec_design.specs.Chains.{Operator, chain, bit_of_way, operators_at}
-use Rattle.lp_spec_design.specs.Settled.{Design, set_at}
+use Rattle.lp_spec_design.specs.Chains.{Operator, chain, bit_of_way}
+use Rattle.lp_spec_design.specs.Settled.{Design, set_at, operators_of}
 use Rattle.lp_spec_design.specs.Registers.{retention}
 use Rattle.lp_spec_plain.specs.Designs.{supply_at}
 use Rattle.lp_spec_plain_module.specs.Designs.{Flat, one_set, no_strategies, design_of}
@@ -27,12 +28,12 @@ module _ (f : Flat) where
   unfolding no_operators
   chain-none n b fuel r = either (is_input b.port)
 
-  pub no_operator : (w : Way) (r : Option SetNumber) → operators_at d.structure d.network d.intent d.fuel w r ≡ []
+  pub no_operator : (w : Way) (r : Option SetNumber) → operators_of d w r ≡ []
   no_operator w r = by (bit_of_way d.structure d.intent w) refl
     where
-      by : (o : Option BoundaryBit) → bit_of_way d.structure d.intent w ≡ o → operators_at d.structure d.network d.intent d.fuel w r ≡ []
+      by : (o : Option BoundaryBit) → bit_of_way d.structure d.intent w ≡ o → operators_of d w r ≡ []
       by None e = rw (e) refl
-      by (Some b) e = rw (e) (chain-none d.network b d.fuel r)
+      by (Some b) e = rw (e) (chain-none d.network b (fuel_of d.structure) r)
 
   pub no_retention : (p : Path) (x : Name) → retention d.intent p x ≡ None
   no_retention p x = refl

@@ -1,19 +1,22 @@
 -- Where the wires of a flat design's netlist begin.
-use Rattle.std.proofs.Common.{◌≡◌, ℕ, zero, suc, Bool, true, false, ◌||◌, ◌&&◌, cond, List, [], ◌∷◌, ◌++◌, map, Option, Some, None, refl, sym, ◌∙◌, ap, subst}
-use Rattle.std.specs.Prelude.{bytes_eq, filter, flat_map}
-use Rattle.std.specs.List.{AllByRecursion, list_any}
-use Rattle.std.proofs.lemmas.Bool.{false≢true, true≢false, not-true, not-false}
+use Rattle.std.proofs.Common.{◌≡◌, ℕ, zero, suc, ◌<◌, Bool, true, false, ◌||◌, ◌&&◌, cond, List, [], ◌∷◌, ◌++◌, map, length, Option, Some, None, refl, sym, ◌∙◌, ap, subst, arith, length-append}
+use Rattle.std.specs.Prelude.{bytes_eq, filter, flat_map, is_some}
+use Rattle.std.specs.List.{AllByRecursion, list_all, list_any}
+use Rattle.std.proofs.lemmas.Bool.{and_from, false≢true, true≢false, not-true, not-false}
+use Rattle.lp_text.specs.Texts.{same_text-true}
 use Rattle.lp_model.specs.NetlistView.{PortView}
-use Rattle.lp_spec_design.specs.Keys.{Name, Path, Node, Inner, Outer, Fixed, PortBit, Source, Environment, From, same_index}
-use Rattle.lp_spec_design.specs.Netlists.{Structure, indices, is_input}
+use Rattle.lp_spec_design.specs.Keys.{Name, Path, Node, Inner, Outer, Fixed, Way, PortBit, Source, Environment, From, same_index}
+use Rattle.lp_spec_design.specs.Netlists.{Structure, module_at, indices, is_input}
+use Rattle.lp_spec_design.specs.Nodes.{inner_nodes, outer_in, fuel_of}
 use Rattle.lp_spec_design.specs.Graph.{from_port, from_one, from_assign, numbered, outside, sources_of, source_of, trail, going_back, way_in, beginning}
-use Rattle.lp_spec_pins.specs.Pins.{FromTop, supply_begun, supply_of_node}
+use Rattle.lp_spec_pins.specs.Pins.{FromTop, supply_begun, supply_of_node, only}
+use Rattle.lp_spec_pins.specs.Supplied.{has_one_source, is_single}
 use Rattle.lp_spec_plain.specs.Carried.{LeadsFromPort, FromNothing, AtPort, Along}
 use Rattle.lp_spec_plain_module.specs.Designs.{Flat}
 use Rattle.lp_spec_plain_module.specs.Netlists.{power_port, ground_port, supply_input, powered_instance, powered, is_supply, netlist_of, is_own}
 use Rattle.lp_spec_plain_module.specs.Tests.{is_flat}
 use Rattle.lp_spec_plain_module.proofs.Lists.{filter-behind, filter-none}
-use Rattle.lp_spec_plain_module.proofs.Graphs.{source, written, no_assign, instances_flat, no_module, no_module_written}
+use Rattle.lp_spec_plain_module.proofs.Graphs.{source, written, ports_apart, top_written, no_assign, instances_flat, no_module, no_module_written}
 use Rattle.lp_spec_plain_module.proofs.Sources.{IsGood, AllByRecursion-append, instances_same, instances_none, instances_good, not_named, ports_same, ports_good, outside_good, inner_is, inner_written, outer_is, outer_written}
 
 abbrev head_of : List Source → Option Source
@@ -135,18 +138,21 @@ module _ (f : Flat) (flat : is_flat f ≡ true) where
     unfolding later
     later_none = λ r. (instances_same f flat n i f.source.instances (instances_flat f flat) ∙ instances_none f flat n i e f.source.instances (instances_flat f flat)) r ++ assigns_none n i r
 
-  supply_sources : (n : Name) → is_supply f n ≡ true → (r : List Source) × (sources_of t (Inner n None []) ≡ From (PortBit [] n None) (Outer n None) ∷ r)
+  one_port : (n : Name) → bytes_eq (power_port f) n ≡ true → bytes_eq (ground_port f) n ≡ true → ⊥
+  one_port n p q = true≢false (sym p ∙ (ap (bytes_eq (power_port f)) (sym (same_text-true (ground_port f) n q)) ∙ ports_apart f flat))
+
+  supply_sources : (n : Name) → is_supply f n ≡ true → sources_of t (Inner n None []) ≡ From (PortBit [] n None) (Outer n None) ∷ []
   unfolding ports_of
   supply_sources n e = by (bytes_eq (power_port f) n) (bytes_eq (ground_port f) n) refl refl e
     where
-      by : (a b : Bool) → bytes_eq (power_port f) n ≡ a → bytes_eq (ground_port f) n ≡ b → (a || b) ≡ true → (r : List Source) × (sources_of t (Inner n None []) ≡ From (PortBit [] n None) (Outer n None) ∷ r)
-      by true true p q h = (From (PortBit [] n None) (Outer n None) ∷ later n None e, lists n None e true true p q)
-      by true false p q h = (later n None e, lists n None e true false p q)
-      by false true p q h = (later n None e, lists n None e false true p q)
+      by : (a b : Bool) → bytes_eq (power_port f) n ≡ a → bytes_eq (ground_port f) n ≡ b → (a || b) ≡ true → sources_of t (Inner n None []) ≡ From (PortBit [] n None) (Outer n None) ∷ []
+      by true true p q h = absurd (one_port n p q)
+      by true false p q h = lists n None e true false p q ∙ ap (λ r. From (PortBit [] n None) (Outer n None) ∷ r) (later_none n None e)
+      by false true p q h = lists n None e false true p q ∙ ap (λ r. From (PortBit [] n None) (Outer n None) ∷ r) (later_none n None e)
       by false false p q h = absurd (false≢true h)
 
   supply_source : (n : Name) → is_supply f n ≡ true → source_of t (Inner n None []) ≡ Some (From (PortBit [] n None) (Outer n None))
-  supply_source n e = let lists = supply_sources n e in source_by t (Inner n None []) (From (PortBit [] n None) (Outer n None) ∷ lists.0) lists.1
+  supply_source n e = source_by t (Inner n None []) (From (PortBit [] n None) (Outer n None) ∷ []) (supply_sources n e)
 
   -- a supply port is a scalar
   no_bit : (n : Name) (j : ℕ) → is_supply f n ≡ true → source_of t (Inner n (Some j) []) ≡ None
@@ -162,13 +168,17 @@ module _ (f : Flat) (flat : is_flat f ≡ true) where
   outer_two : (n : Name) (i : Option ℕ) → is_supply f n ≡ true → sources_of t (Outer n i) ≡ map (outside n i) (filter (λ (p : PortView). bytes_eq p.name n && list_any (same_index i) (indices p.range)) (supply_input (power_port f) ∷ supply_input (ground_port f) ∷ []))
   outer_two n i e = outer_written f flat n i ∙ ap (map (outside n i)) (filter-behind (λ (p : PortView). bytes_eq p.name n && list_any (same_index i) (indices p.range)) f.source.ports (supply_input (power_port f) ∷ supply_input (ground_port f) ∷ []) (not_named f flat n i (λ (p : PortView). list_any (same_index i) (indices p.range)) e))
 
-  pub port_source : (n : Name) → is_supply f n ≡ true → source_of t (Outer n None) ≡ Some Environment
-  port_source n e = source_by t (Outer n None) (map (outside n None) (filter (λ (p : PortView). bytes_eq p.name n && list_any (same_index None) (indices p.range)) (supply_input (power_port f) ∷ supply_input (ground_port f) ∷ []))) (outer_two n None e) ∙ by (bytes_eq (power_port f) n) (bytes_eq (ground_port f) n) e
+  port_sources : (n : Name) → is_supply f n ≡ true → sources_of t (Outer n None) ≡ Environment ∷ []
+  port_sources n e = outer_two n None e ∙ by (bytes_eq (power_port f) n) (bytes_eq (ground_port f) n) refl refl e
     where
-      by : (a b : Bool) → (a || b) ≡ true → head_of (map (outside n None) (cond (a && true) (supply_input (power_port f) ∷ cond (b && true) (supply_input (ground_port f) ∷ []) []) (cond (b && true) (supply_input (ground_port f) ∷ []) []))) ≡ Some Environment
-      by true b h = refl
-      by false true h = refl
-      by false false h = absurd (false≢true h)
+      by : (a b : Bool) → bytes_eq (power_port f) n ≡ a → bytes_eq (ground_port f) n ≡ b → (a || b) ≡ true → map (outside n None) (cond (a && true) (supply_input (power_port f) ∷ cond (b && true) (supply_input (ground_port f) ∷ []) []) (cond (b && true) (supply_input (ground_port f) ∷ []) [])) ≡ Environment ∷ []
+      by true true p q h = absurd (one_port n p q)
+      by true false p q h = refl
+      by false true p q h = refl
+      by false false p q h = absurd (false≢true h)
+
+  pub port_source : (n : Name) → is_supply f n ≡ true → source_of t (Outer n None) ≡ Some Environment
+  port_source n e = source_by t (Outer n None) (Environment ∷ []) (port_sources n e)
 
   port_bit : (n : Name) (j : ℕ) → is_supply f n ≡ true → source_of t (Outer n (Some j)) ≡ None
   port_bit n j e = source_by t (Outer n (Some j)) (map (outside n (Some j)) (filter (λ (p : PortView). bytes_eq p.name n && list_any (same_index (Some j)) (indices p.range)) (supply_input (power_port f) ∷ supply_input (ground_port f) ∷ []))) (outer_two n (Some j) e) ∙ by (bytes_eq (power_port f) n) (bytes_eq (ground_port f) n)
@@ -202,10 +212,49 @@ module _ (f : Flat) (flat : is_flat f ≡ true) where
   at_port n e = ap (supply_begun (netlist_of f) (Outer n None)) (port_source n e) ∙ ap (λ b. cond b (Some (FromTop n)) None) e
 
   pub port_supply : (n : Name) → is_supply f n ≡ true → supply_of_node (netlist_of f) (Outer n None) ≡ Some (FromTop n)
-  port_supply n e = ap (λ k. supply_begun (netlist_of f) k (source_of t k)) (begins_at_port n e (suc f.nodes)) ∙ at_port n e
+  port_supply n e = ap (λ k. supply_begun (netlist_of f) k (source_of t k)) (begins_at_port n e (fuel_of t)) ∙ at_port n e
+
+  -- the two ports are nodes, so that there is one
+  outer_bits : List PortView → List Node
+  outer_bits ports = flat_map (λ (x : PortView). map (λ i. Outer x.name i) (indices x.range)) ports
+
+  some_outer : (ports : List PortView) → 0 < length (outer_bits (ports ++ supply_input (power_port f) ∷ supply_input (ground_port f) ∷ []))
+  unfolding outer_bits
+  some_outer [] = omega arith
+  some_outer (q ∷ ports) =
+      let more = some_outer ports in
+      omega (arith, length-append (map (λ i. Outer q.name i) (indices q.range)) (outer_bits (ports ++ supply_input (power_port f) ∷ supply_input (ground_port f) ∷ [])), more)
+
+  some_node : 0 < fuel_of t
+  unfolding fuel_of outer_bits
+  some_node =
+      let outer : 0 < length (outer_in (module_at t [])) = subst (λ o. 0 < length (outer_in o)) (sym (top_written f flat)) (some_outer f.source.ports) in
+      omega (arith, length-append (inner_nodes t) (outer_in (module_at t [])), outer)
+
+  begins_before : (n : Name) → is_supply f n ≡ true → (fuel : ℕ) → 0 < fuel → beginning (Inner n None []) (trail t fuel (Inner n None [])) ≡ Outer n None
+  begins_before n e zero some = absurd (omega arith)
+  begins_before n e (suc fuel) some = ap (λ o. beginning (Inner n None []) (going_back (λ j. trail t fuel j) (way_in o))) (supply_source n e) ∙ begins_at_port n e fuel
 
   pub net_supply : (n : Name) → is_supply f n ≡ true → supply_of_node (netlist_of f) (Inner n None []) ≡ Some (FromTop n)
   net_supply n e =
       ap (λ k. supply_begun (netlist_of f) k (source_of t k))
-      (ap (λ o. beginning (Inner n None []) (going_back (λ j. trail t f.nodes j) (way_in o))) (supply_source n e) ∙ begins_at_port n e f.nodes)
+      (begins_before n e (fuel_of t) some_node)
       ∙ at_port n e
+
+  -- ---- each node on the way to a port has one source
+
+  ends_at_port : (n : Name) → is_supply f n ≡ true → (fuel : ℕ) → trail t fuel (Outer n None) ≡ []
+  ends_at_port n e zero = refl
+  ends_at_port n e (suc fuel) = ap (λ o. going_back (λ j. trail t fuel j) (way_in o)) (port_source n e)
+
+  one_source : (k : Node) (x : Source) → sources_of t k ≡ x ∷ [] → has_one_source t k ≡ true
+  one_source k x e = ap (λ xs. is_some (only xs)) e
+
+  wire_single : (n : Name) → is_supply f n ≡ true → (fuel : ℕ) → 0 < fuel → list_all (has_one_source t) (Inner n None [] ∷ map (λ (step : Way × Node). step.1) (trail t fuel (Inner n None []))) ≡ true
+  wire_single n e zero some = absurd (omega arith)
+  wire_single n e (suc fuel) some =
+      ap (λ steps. has_one_source t (Inner n None []) && list_all (has_one_source t) (map (λ (step : Way × Node). step.1) steps)) (ap (λ o. going_back (λ j. trail t fuel j) (way_in o)) (supply_source n e) ∙ ap (λ steps. (PortBit [] n None, Outer n None) ∷ steps) (ends_at_port n e fuel))
+      ∙ and_from _ _ (one_source (Inner n None []) (From (PortBit [] n None) (Outer n None)) (supply_sources n e)) (and_from _ _ (one_source (Outer n None) Environment (port_sources n e)) refl)
+
+  pub net_single : (n : Name) → is_supply f n ≡ true → is_single (netlist_of f) (Some (Inner n None [])) ≡ true
+  net_single n e = wire_single n e (fuel_of t) some_node

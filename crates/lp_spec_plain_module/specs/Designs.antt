@@ -6,14 +6,13 @@ use Rattle.lp_spec_design.specs.Keys.{Name}
 use Rattle.lp_spec_design.specs.Intents.{Domain, Intent, SupplySet, FromPort, Network}
 use Rattle.lp_spec_design.specs.Settled.{Design}
 
--- the cells of the libraries, the module, the supply ports of the power and of the ground, up to which difference a reader takes the value of a lower driver (in microvolts), and the number of nodes
+-- the cells of the libraries, the module, the supply ports of the power and of the ground, and up to which difference a reader takes the value of a lower driver (in microvolts)
 pub record Flat : Type 0 where
   pub cells : List CellView
   pub source : ModuleView
   pub power : Name
   pub gnd : Name
   pub margin : ℕ
-  pub nodes : ℕ
 
 -- the power port is the first origin, the ground port the second
 abbrev pub one_set : SupplySet
@@ -29,4 +28,4 @@ abbrev pub no_strategies : Intent
 no_strategies = record { domains = one_domain ∷ []; strategies = []; drivers = []; receivers = [] }
 
 abbrev pub design_of : Flat → Design
-design_of f = record { structure = record { modules = f.source ∷ []; cells = f.cells }; network = one_supply f.margin; intent = no_strategies; fuel = f.nodes }
+design_of f = record { structure = record { modules = f.source ∷ []; cells = f.cells }; network = one_supply f.margin; intent = no_strategies }

@@ -1,5 +1,5 @@
 -- The netlist of a flat design with its supplies: two ports, to which every power and ground pin is joined (own rule).
-use Rattle.std.specs.Prelude.{ℕ, suc, Bool, true, not, ◌||◌, List, [], ◌∷◌, ◌++◌, map, Option, Some, None, if◌then◌else◌, bytes_eq, codes}
+use Rattle.std.specs.Prelude.{ℕ, Bool, true, not, ◌||◌, List, [], ◌∷◌, ◌++◌, map, Option, Some, None, if◌then◌else◌, bytes_eq, codes}
 use Rattle.lp_model.specs.declared.netlist.Direction.TheVariants.{Input}
 use Rattle.lp_model.specs.NetlistView.{NetBit, PortView, ConnectionView, ConnectionsView, ByName, ByPosition, InstanceView, ModuleView}
 use Rattle.lp_model.specs.LibraryView.{PgPinView, CellView}
@@ -63,7 +63,7 @@ abbrev pub surroundings : Flat → Surroundings
 surroundings f = record { is_supply = is_supply f; driver = λ n. supply_nodes f; receiver = λ n. supply_nodes f; margin = f.margin }
 
 abbrev pub netlist_of : Flat → Powered
-netlist_of f = record { structure = record { modules = powered f ∷ []; cells = f.cells }; around = surroundings f; fuel = suc f.nodes }
+netlist_of f = record { structure = record { modules = powered f ∷ []; cells = f.cells }; around = surroundings f }
 
 -- the origin of a supply port of the netlist
 abbrev pub origin_of : Flat → Name → ℕ

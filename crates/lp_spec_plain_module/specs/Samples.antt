@@ -76,4 +76,4 @@ source = record {
 }
 
 abbrev pub design : Flat
-design = record { cells = and2 ∷ dff ∷ []; source = source; power = codes "VDD"; gnd = codes "VSS"; margin = 0; nodes = 9 }
+design = record { cells = and2 ∷ dff ∷ []; source = source; power = codes "VDD"; gnd = codes "VSS"; margin = 0 }

@@ -9,16 +9,17 @@ use Rattle.lp_text.specs.Texts.{has_text, distinct}
 use Rattle.lp_model.specs.declared.netlist.BitRange.{BitRange}
 use Rattle.lp_model.specs.declared.reason.Reason.{Reason}
 use Rattle.lp_model.specs.NetlistView.{BitView, NetBit, SelectBit, ConstBit, PortView, NetView, ConnectionView, ConnectionsView, ByName, ByPosition, InstanceView, AssignView, ModuleView}
-use Rattle.lp_model.specs.LibraryView.{PinView, CellView}
+use Rattle.lp_model.specs.LibraryView.{PgPinView, PinView, CellView}
 use Rattle.lp_spec_design.specs.Keys.{Name}
 use Rattle.lp_spec_design.specs.Netlists.{first}
+use Rattle.lp_spec_plain.specs.Cells.{is_related_pin, loses_with_supply, takes_one_supply}
 use Rattle.lp_spec_plain_module.specs.Tests.{is_pg_name, has_names_apart, is_free_bit, is_free_connection, are_free, fits_cell, is_flat_instance, has_no_assign}
 use Rattle.lp_spec_plain_module.proofs.Lists.{all-weaker}
 use Rattle.lp_vwrite.specs.Layout.{declared}
 use Rattle.lp_vwrite.specs.WellFormed.{is_name, declaration, is_scalar, has_index, is_bit, is_connection, are_connections, is_instance, is_net, is_module, names_of}
 use Rattle.lp_vwrite.specs.Sound.{is_read_connections, is_read_instance, is_read_module}
 use Rattle.lp_spec_plain_netlist.specs.Single.{is_single_instance, is_single_module}
-use Rattle.lp_spec_plain_netlist.specs.Fits.{cell_named, is_taken, has_pg_names, is_read_cell, are_read, connected_names, pin_names, names_pins, is_joined, is_fit, is_plain_target}
+use Rattle.lp_spec_plain_netlist.specs.Fits.{cell_named, is_extra, is_taken, has_pg_names, has_related_pins, is_switched_inside, is_known_cell, is_read_cell, are_read, connected_names, pin_names, names_pins, is_joined, is_fit, is_plain_target}
 use Rattle.lp_spec_plain_netlist.specs.Flats.{flat_of}
 use Rattle.lp_spec_plain_netlist.proofs.Names.{is_free, free-supply, has-passes, lookup-passes}
 
@@ -56,10 +57,16 @@ abbrev pub has_target_names : Option CellView → Bool
 has_target_names None = true
 has_target_names (Some c) = has_pg_names c
 
+-- what stands of each cell that can be used stands of the cell
+abbrev pub is_known_target : Option CellView → Bool
+is_known_target None = true
+is_known_target (Some c) = is_known_cell c
+
 -- what the test of a module that fits says, where it and the cells were read
 pub record IsFit (cells : List CellView) (m : ModuleView) : Type 0 where
   pub no_cell : cell_named cells m.name ≡ None
   pub joined : list_all (λ (x : InstanceView). is_joined x (cell_named cells x.target)) m.instances ≡ true
+  pub known : list_all (λ (x : InstanceView). is_known_target (cell_named cells x.target)) m.instances ≡ true
   pub named : list_all (λ (x : InstanceView). has_target_names (cell_named cells x.target)) m.instances ≡ true
   pub written : is_module m ≡ true
 
@@ -78,25 +85,25 @@ first-passes p q (d ∷ cells) c all e =
     ] e
 
 -- the cell of a joined instance can be used
-named_usable : (u : Option Reason) (b : Bool) → is_none u ≡ true → (is_some u || b) ≡ true → b ≡ true
-named_usable None b none e = e
-named_usable (Some r) b none e = absurd (false≢true none)
+usable_known : (u : Option Reason) (b : Bool) → is_none u ≡ true → (is_some u || b) ≡ true → b ≡ true
+usable_known None b none e = e
+usable_known (Some r) b none e = absurd (false≢true none)
 
-named_by : (x : InstanceView) (o : Option CellView) → ((c : CellView) → o ≡ Some c → is_read_cell c ≡ true) → is_joined x o ≡ true → has_target_names o ≡ true
-named_by x None read joined = refl
-named_by x (Some c) read joined =
+known_by : (x : InstanceView) (o : Option CellView) → ((c : CellView) → o ≡ Some c → is_read_cell c ≡ true) → is_joined x o ≡ true → is_known_target o ≡ true
+known_by x None read joined = refl
+known_by x (Some c) read joined =
     let usable = and_parts (is_none c.unusable) _ (and_parts (is_taken c) _ joined).0 in
-    named_usable c.unusable (has_pg_names c) usable.0 (read c refl)
+    usable_known c.unusable (is_known_cell c) usable.0 (read c refl)
 
-targets_named : (cells : List CellView) → list_all is_read_cell cells ≡ true → (xs : List InstanceView)
+targets_known : (cells : List CellView) → list_all is_read_cell cells ≡ true → (xs : List InstanceView)
     → list_all (λ (x : InstanceView). is_joined x (cell_named cells x.target)) xs ≡ true
-    → list_all (λ (x : InstanceView). has_target_names (cell_named cells x.target)) xs ≡ true
-targets_named cells read [] joined = refl
-targets_named cells read (x ∷ xs) joined =
+    → list_all (λ (x : InstanceView). is_known_target (cell_named cells x.target)) xs ≡ true
+targets_known cells read [] joined = refl
+targets_known cells read (x ∷ xs) joined =
     let j = and_parts (is_joined x (cell_named cells x.target)) _ joined in
     and_from _ _
-    (named_by x (cell_named cells x.target) (λ c e. first-passes (λ (d : CellView). bytes_eq d.name x.target) is_read_cell cells c read e) j.0)
-    (targets_named cells read xs j.1)
+    (known_by x (cell_named cells x.target) (λ c e. first-passes (λ (d : CellView). bytes_eq d.name x.target) is_read_cell cells c read e) j.0)
+    (targets_known cells read xs j.1)
 
 module _ (nets : List (Name × Option BitRange)) where
   connections_written : (pins : List Name) (cs : ConnectionsView) (x : InstanceView) → x.connections ≡ cs → is_single_instance x ≡ true → names_pins (connected_names cs) pins ≡ true → is_read_connections nets cs ≡ true → are_connections nets cs ≡ true
@@ -136,15 +143,21 @@ module_written cells m single joined read =
     (and_from _ _ apart.0
     (and_from _ _ (instances_written (declared m) cells m.instances (and_parts _ _ (behind_nets m single)).0 joined instances.0) instances.1)))
 
+known_names : (o : Option CellView) → is_known_target o ≡ true → has_target_names o ≡ true
+known_names None e = refl
+known_names (Some c) e = (and_parts (has_pg_names c) _ e).0
+
 pub fit_parts : (cells : List CellView) (m : ModuleView) → is_single_module m ≡ true → are_read cells m ≡ true → is_fit cells m ≡ true → IsFit cells m
 fit_parts cells m single read fit =
     let none = and_parts (is_none (cell_named cells m.name)) _ fit in
     let instances = and_parts (list_all (λ (x : InstanceView). is_joined x (cell_named cells x.target)) m.instances) _ none.1 in
     let both = and_parts (list_all is_read_cell cells) (is_read_module m) read in
+    let known = targets_known cells both.0 m.instances instances.0 in
     record {
       no_cell = none_by (cell_named cells m.name) none.0;
       joined = instances.0;
-      named = targets_named cells both.0 m.instances instances.0;
+      known = known;
+      named = all-weaker (λ (x : InstanceView). is_known_target (cell_named cells x.target)) (λ (x : InstanceView). has_target_names (cell_named cells x.target)) (λ x e. known_names (cell_named cells x.target) e) m.instances known;
       written = module_written cells m single instances.0 both.1;
     }
 
@@ -206,13 +219,44 @@ module _ (cells : List CellView) (m : ModuleView) (power gnd : Name) (margin : �
     are_free_by (ByName cs) pins bits = free_connections cs (and_parts _ _ pins).0 (and_parts _ _ bits).1
     are_free_by (ByPosition values) pins bits = bits
 
+  -- of a cell without backup and internal pins nothing is switched
+  unswitched : (gs : List PgPinView) → list_all (λ (g : PgPinView). not (is_extra g.kind)) gs ≡ true → list_all is_switched_inside gs ≡ true → list_all (λ (g : PgPinView). is_none g.switched) gs ≡ true
+  unswitched [] extra inside = refl
+  unswitched (g ∷ gs) extra inside =
+      let e = and_parts (not (is_extra g.kind)) _ extra in
+      let i = and_parts (is_switched_inside g) _ inside in
+      and_from _ _ (by (is_none g.switched) (is_extra g.kind) e.0 i.0) (unswitched gs e.1 i.1)
+    where
+      by : (a b : Bool) → not b ≡ true → (a || b) ≡ true → a ≡ true
+      by true b n o = refl
+      by false true n o = absurd (false≢true n)
+      by false false n o = o
+
+  -- a cell that is taken takes one supply
+  takes_one : (c : CellView) → is_taken c ≡ true → is_known_cell c ≡ true → takes_one_supply c ≡ true
+  takes_one c taken known =
+      let usable = and_parts (is_none c.unusable) _ taken in
+      let shifter = and_parts (is_none c.roles.shifter) _ usable.1 in
+      let retention = and_parts (is_none c.roles.retention) _ shifter.1 in
+      let switch = and_parts (not c.roles.switch) _ retention.1 in
+      let named = and_parts (has_pg_names c) _ known in
+      let related = and_parts (has_related_pins c) (list_all is_switched_inside c.pgs) named.1 in
+      and_from _ _ shifter.0
+      (and_from _ _ retention.0
+      (and_from _ _ (unswitched c.pgs switch.1 related.1) (by c.roles.switch switch.0 related.0)))
+    where
+      by : (b : Bool) → not b ≡ true → (b || list_all (is_related_pin c) c.pins) ≡ true → list_all (is_related_pin c) c.pins ≡ true
+      by true n o = absurd (false≢true n)
+      by false n o = o
+
   -- an instance that fits a plain cell
-  flat_by : (x : InstanceView) (o : Option CellView) → is_joined x o ≡ true → has_target_names o ≡ true → is_plain_target o ≡ true → is_instance (declared m) x ≡ true → fits_cell (flat_of cells m power gnd margin) x.connections o ≡ true
+  flat_by : (x : InstanceView) (o : Option CellView) → is_joined x o ≡ true → is_known_target o ≡ true → is_plain_target o ≡ true → is_instance (declared m) x ≡ true → fits_cell (flat_of cells m power gnd margin) x.connections o ≡ true
   flat_by x None joined named plain written = joined
   flat_by x (Some c) joined named plain written =
       let target = and_parts (is_name x.name) _ written in
-      let names = and_parts (has_names_apart c) _ named in
-      and_from _ _ plain (and_from _ _ names.0 (are_free_by c names.0 x.connections (joined_pins x c joined) (and_parts (is_name x.target) _ target.1).1))
+      let names = and_parts (has_names_apart c) _ (and_parts (has_pg_names c) _ named).0 in
+      let takes = takes_one c (and_parts (is_taken c) _ joined).0 named in
+      and_from _ _ (and_from (takes_one_supply c) (loses_with_supply c) takes plain) (and_from _ _ names.0 (are_free_by c names.0 x.connections (joined_pins x c joined) (and_parts (is_name x.target) _ target.1).1))
 
   -- a cell is not the module
   other_target : cell_named cells m.name ≡ None → (n : Name) (o : Option CellView) → cell_named cells n ≡ o → is_plain_target o ≡ true → bytes_eq m.name n ≡ false
@@ -225,14 +269,14 @@ module _ (cells : List CellView) (m : ModuleView) (power gnd : Name) (margin : �
 
   pub instances_flat : cell_named cells m.name ≡ None → (xs : List InstanceView)
       → list_all (λ (x : InstanceView). is_joined x (cell_named cells x.target)) xs ≡ true
-      → list_all (λ (x : InstanceView). has_target_names (cell_named cells x.target)) xs ≡ true
+      → list_all (λ (x : InstanceView). is_known_target (cell_named cells x.target)) xs ≡ true
       → list_all (λ (x : InstanceView). is_plain_target (cell_named cells x.target)) xs ≡ true
       → list_all (is_instance (declared m)) xs ≡ true
       → list_all (is_flat_instance (flat_of cells m power gnd margin)) xs ≡ true
   instances_flat none [] joined named plain written = refl
   instances_flat none (x ∷ xs) joined named plain written =
       let j = and_parts (is_joined x (cell_named cells x.target)) _ joined in
-      let n = and_parts (has_target_names (cell_named cells x.target)) _ named in
+      let n = and_parts (is_known_target (cell_named cells x.target)) _ named in
       let p = and_parts (is_plain_target (cell_named cells x.target)) _ plain in
       let w = and_parts (is_instance (declared m) x) _ written in
       and_from _ _

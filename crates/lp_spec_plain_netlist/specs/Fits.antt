@@ -9,7 +9,7 @@ use Rattle.lp_model.specs.LibraryView.{PgPinView, PinView, CellView}
 use Rattle.lp_spec_design.specs.Keys.{Name}
 use Rattle.lp_spec_design.specs.Netlists.{first, is_input}
 use Rattle.lp_spec_design.specs.Graph.{is_output_pin}
-use Rattle.lp_spec_plain.specs.Cells.{is_plain_cell}
+use Rattle.lp_spec_plain.specs.Cells.{is_related_pin, loses_with_supply}
 use Rattle.lp_spec_plain_module.specs.Tests.{has_names_apart}
 use Rattle.lp_vwrite.specs.WellFormed.{is_name}
 use Rattle.lp_vwrite.specs.Sound.{is_read_module}
@@ -99,7 +99,7 @@ is_fit cells m =
 -- outputs and state of each cell are lost exactly where its one supply is not on
 abbrev pub is_plain_target : Option CellView → Bool
 is_plain_target None = false
-is_plain_target (Some c) = is_plain_cell c
+is_plain_target (Some c) = loses_with_supply c
 
 abbrev pub are_plain : List CellView → ModuleView → Bool
 are_plain cells m = list_all (λ (x : InstanceView). is_plain_target (cell_named cells x.target)) m.instances
@@ -110,9 +110,20 @@ are_plain cells m = list_all (λ (x : InstanceView). is_plain_target (cell_named
 abbrev pub has_pg_names : CellView → Bool
 has_pg_names c = has_names_apart c && list_all (λ (g : PgPinView). is_name g.name) c.pgs
 
+-- each signal pin relates to a power and a ground pin, but for those of switch cells
+abbrev pub has_related_pins : CellView → Bool
+has_related_pins c = c.roles.switch || list_all (is_related_pin c) c.pins
+
+-- what is switched is an internal pin
+abbrev pub is_switched_inside : PgPinView → Bool
+is_switched_inside g = is_none g.switched || is_extra g.kind
+
+abbrev pub is_known_cell : CellView → Bool
+is_known_cell c = has_pg_names c && (has_related_pins c && list_all is_switched_inside c.pgs)
+
 -- so it is with each cell that can be used
 abbrev pub is_read_cell : CellView → Bool
-is_read_cell c = is_some c.unusable || has_pg_names c
+is_read_cell c = is_some c.unusable || is_known_cell c
 
 -- cells of libraries and a module of a netlist that were read
 abbrev pub are_read : List CellView → ModuleView → Bool

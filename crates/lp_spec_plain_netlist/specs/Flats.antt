@@ -1,6 +1,6 @@
 -- The design of a module with its cells and the two supply ports of its intent, and whether its keys have an order (own rule).
-use Rattle.std.specs.Prelude.{ℕ, ◌+◌, List, length}
-use Rattle.lp_spec_settling.specs.Settling.{IsOrder, Covers, Reaches}
+use Rattle.std.specs.Prelude.{ℕ, List}
+use Rattle.lp_spec_settling.specs.Settling.{HasOrder, Reaches}
 use Rattle.lp_model.specs.NetlistView.{ModuleView}
 use Rattle.lp_model.specs.LibraryView.{CellView}
 use Rattle.lp_spec_design.specs.Keys.{Name}
@@ -8,19 +8,13 @@ use Rattle.lp_spec_design.specs.Settled.{Key}
 use Rattle.lp_spec_design.specs.Reads.{keys, reads}
 use Rattle.lp_spec_plain_module.specs.Designs.{Flat, design_of}
 
--- a node for each net, and one more for the outer side of each port
-abbrev pub nodes_of : ModuleView → ℕ
-nodes_of m = length m.ports + (length m.ports + length m.nets)
-
 abbrev pub flat_of : List CellView → ModuleView → Name → Name → ℕ → Flat
-flat_of cells m power gnd margin = record { cells = cells; source = m; power = power; gnd = gnd; margin = margin; nodes = nodes_of m }
+flat_of cells m power gnd margin = record { cells = cells; source = m; power = power; gnd = gnd; margin = margin }
 
 -- a node depends on itself
 abbrev pub HasLoop : Flat → Type 0
 HasLoop f = (k : Key) × Reaches keys (reads (design_of f)) k k
 
--- an order of the keys that the equations under intent read
-pub record IsOrdered (f : Flat) : Type 0 where
-  pub order : List Key
-  pub is_order : IsOrder keys (reads (design_of f)) order
-  pub covers : Covers keys (reads (design_of f)) order
+-- the keys that the equations under intent read have an order
+abbrev pub IsOrdered : Flat → Type 0
+IsOrdered f = HasOrder keys (reads (design_of f))

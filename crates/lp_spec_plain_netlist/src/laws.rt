@@ -11,7 +11,9 @@ ghost use Rattle.lp_spec_plain_netlist.specs.Flats.{flat_of, HasLoop, IsOrdered}
 
 /// A module that fits plain cells gives a flat design, where both were read.
 pub fn fits_are_flat()
-    ensures { (cells : List CellView) (m : ModuleView) (power gnd : Name) (margin : ℕ) → is_single_module m ≡ true → are_read cells m ≡ true → is_fit cells m ≡ true → are_plain cells m ≡ true → bytes_eq power gnd ≡ false → is_flat (flat_of cells m power gnd margin) ≡ true }
+    ensures { (cells : List CellView) (m : ModuleView) (power gnd : Name) (margin : ℕ)
+        → is_single_module m ≡ true → are_read cells m ≡ true → is_fit cells m ≡ true → are_plain cells m ≡ true → bytes_eq power gnd ≡ false
+        → is_flat (flat_of cells m power gnd margin) ≡ true }
 {}
 
 /// A design whose keys have an order has no key that depends on itself.

@@ -1,1 +1,5 @@
 mod Computed
+mod Judged
+pub mod Netlists
+pub mod Places
+pub mod Ports

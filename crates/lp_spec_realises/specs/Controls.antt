@@ -5,9 +5,9 @@ use Rattle.lp_model.specs.NetlistView.{PortView, NetView, ModuleView}
 use Rattle.lp_spec_design.specs.Keys.{Name, Path, Node, Inner}
 use Rattle.lp_spec_design.specs.Netlists.{Structure, first, module_at, indices}
 use Rattle.lp_spec_design.specs.Intents.{SetNumber, SupplySet}
-use Rattle.lp_spec_design.specs.Chains.{rail}
+use Rattle.lp_spec_design.specs.Settled.{rail_of}
 use Rattle.lp_spec_network.specs.Views.{lower_origins}
-use Rattle.lp_spec_realises.specs.Projects.{Project, network_of}
+use Rattle.lp_spec_realises.specs.Projects.{Project, network_of, design_of}
 
 -- a bit of a net of a module by its whole name: a scalar by its own, a bit of a vector as name[index]
 abbrev pub whole_name : Name → Option ℕ → Name
@@ -42,7 +42,7 @@ abbrev pub power_of : Project → Option SetNumber → Option ℕ
 power_of p k = option_and_then (λ j. option_and_then (λ (s : SupplySet). Some s.power) (slice_get (network_of p).sets j)) k
 
 abbrev pub power_of_rail : Project → Node → Option ℕ
-power_of_rail p k = power_of p (rail p.structure (network_of p) p.intent p.fuel k)
+power_of_rail p k = power_of p (rail_of (design_of p) k)
 
 abbrev pub is_lower : Project → Option ℕ → Option ℕ → Bool
 is_lower p (Some a) (Some b) = lower_origins p.supplies a b p.margin

@@ -3,11 +3,14 @@ use Rattle.std.specs.Prelude.{ℕ, Bool, true, false, ◌&&◌, List, [], ◌∷
 use Rattle.lp_model.specs.LibraryView.{PgPinView, PinView, CellView}
 use Rattle.lp_spec_design.specs.Keys.{Name, Path, same_path, same_index, same_bool, Node, Outer, Fixed, Way, Source, CellPin, SwitchedPin, Environment}
 use Rattle.lp_spec_design.specs.Netlists.{Structure, first, cell_at}
+use Rattle.lp_spec_design.specs.Instances.{Placed}
+use Rattle.lp_spec_design.specs.Nodes.{fuel_of}
 use Rattle.lp_spec_design.specs.Graph.{source_of, trail, beginning}
-use Rattle.lp_spec_design.specs.Chains.{Operator, operators_at, rail}
-use Rattle.lp_spec_design.specs.Settled.{node_at_pin}
+use Rattle.lp_spec_design.specs.Chains.{Operator}
+use Rattle.lp_spec_design.specs.Settled.{node_at_pin, rail_of, operators_of}
 use Rattle.lp_spec_fit.specs.Fits.{one_output}
-use Rattle.lp_spec_realises.specs.Projects.{Project, Placed, network_of}
+use Rattle.lp_spec_realises.specs.Projects.{Project, design_of}
+use Rattle.lp_spec_realises.specs.Tops.{index_across}
 use Rattle.lp_spec_realises.specs.Operators.{Placement}
 
 -- an output pin or a switched pin of a cell instance, a bit of a top input, a constant, or nothing
@@ -55,8 +58,11 @@ output_end w a = by (option_and_then one_output (cell_at w a.path a.instance))
     by (Some q) = AtPin a.path a.instance q.name
 
 -- the one switched pin of a cell instance
+abbrev pub switched_pin : Structure → Placed → Option PgPinView
+switched_pin w a = option_and_then (λ (c : CellView). first (λ (g : PgPinView). is_some g.switched) c.pgs) (cell_at w a.path a.instance)
+
 abbrev pub switched_end : Structure → Placed → End
-switched_end w a = by (option_and_then (λ (c : CellView). first (λ (g : PgPinView). is_some g.switched) c.pgs) (cell_at w a.path a.instance))
+switched_end w a = by (switched_pin w a)
   where
     by : Option PgPinView → End
     by None = Nowhere
@@ -64,19 +70,27 @@ switched_end w a = by (option_and_then (λ (c : CellView). first (λ (g : PgPinV
 
 -- ---- where a node of the source has to begin in the written netlist
 
+-- an end of the source as one of the netlist
+abbrev pub end_across : Structure → Structure → End → End
+end_across s w (AtTop n i) = AtTop n (index_across s w n i)
+end_across s w (AtPin p x q) = AtPin p x q
+end_across s w (AtSwitched p x g) = AtSwitched p x g
+end_across s w (AtConstant b) = AtConstant b
+end_across s w Nowhere = Nowhere
+
 -- behind operators it is the output of the last one's cell
 abbrev pub behind : Structure → Placement → Way → List Operator → End → End
 behind w at way [] e = e
 behind w at way (o ∷ operators) e = output_end w (at.operator way (length operators))
 
 abbrev pub intended_along : Project → Structure → Placement → Node → List (Way × Node) → End
-intended_along p w at k [] = own_end k (source_of p.structure k)
+intended_along p w at k [] = end_across p.structure w (own_end k (source_of p.structure k))
 intended_along p w at k (step ∷ back) =
-    behind w at step.0 (operators_at p.structure (network_of p) p.intent p.fuel step.0 (rail p.structure (network_of p) p.intent p.fuel step.1)) (intended_along p w at step.1 back)
+    behind w at step.0 (operators_of (design_of p) step.0 (rail_of (design_of p) step.1)) (intended_along p w at step.1 back)
 
 -- the node's own source, or what the node has from which a way without operators leads to it, or the output pin of the last cell on that way
 abbrev pub intended : Project → Structure → Placement → Node → End
-intended p w at k = intended_along p w at k (trail p.structure p.fuel k)
+intended p w at k = intended_along p w at k (trail p.structure (fuel_of p.structure) k)
 
 abbrev pub some_intended : Project → Structure → Placement → Option Node → End
 some_intended p w at None = Nowhere

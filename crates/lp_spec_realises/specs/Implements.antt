@@ -10,17 +10,20 @@ use Rattle.lp_model.specs.declared.supply.SetOrigins.{SetOrigins}
 use Rattle.lp_model.specs.LibraryView.{CellView}
 use Rattle.lp_spec_design.specs.Keys.{Path, same_path, Node, same_node}
 use Rattle.lp_spec_design.specs.Netlists.{Structure, is_input}
+use Rattle.lp_spec_design.specs.Instances.{Placed, cell_instances}
+use Rattle.lp_spec_design.specs.Nodes.{fuel_of}
 use Rattle.lp_spec_design.specs.Intents.{Strategy}
 use Rattle.lp_spec_design.specs.Domains.{node_before}
 use Rattle.lp_spec_design.specs.Winners.{Crossing, crossing}
-use Rattle.lp_spec_design.specs.Chains.{Operator, Clamp, Shift, side_part, rail, rail_after}
+use Rattle.lp_spec_design.specs.Chains.{Operator, Clamp, Shift, side_part, rail_after}
 use Rattle.lp_spec_design.specs.Registers.{retention_winner, retention}
+use Rattle.lp_spec_design.specs.Settled.{rail_of}
 use Rattle.lp_spec_network.specs.Pairs.{pairs_of}
 use Rattle.lp_spec_fit.specs.Needs.{Mapped}
 use Rattle.lp_spec_fit.specs.Choice.{clamp_choice, shifter_choice, register_choice, switch_choice}
-use Rattle.lp_spec_realises.specs.Projects.{Project, Placed, network_of, functions_of, on_expression}
+use Rattle.lp_spec_realises.specs.Projects.{Project, network_of, functions_of, on_expression, design_of}
 use Rattle.lp_spec_realises.specs.Operators.{OperatorAt, all_operators, SwitchAt, all_switches, Placement, placed_operator, placed_switch}
-use Rattle.lp_spec_realises.specs.Realises.{cell_of, cell_instances, primary_at}
+use Rattle.lp_spec_realises.specs.Realises.{cell_of, primary_at}
 
 -- the cells to which strategies and switches are limited, by the numbers of the strategies and of the switches' origins; and the scopes in which switches were made
 pub record Lists : Type 0 where
@@ -35,7 +38,7 @@ abbrev pub sides_of : Project → Crossing → List Side
 sides_of p c = by (is_input c.bit.port)
   where
     arrives : Option ℕ
-    arrives = rail p.structure (network_of p) p.intent p.fuel (node_before p.structure c.bit)
+    arrives = rail_of (design_of p) (node_before p.structure c.bit)
 
     both : Side → Side → List Side
     both one two =
@@ -60,7 +63,7 @@ strategy_of (Clamp t i) = t
 strategy_of (Shift t a b) = t
 
 abbrev pub operator_path : Project → OperatorAt → Option Path
-operator_path p o = option_and_then (λ (t : Strategy). Some (path_by o.bit.path (slice_get (sides_of p (crossing p.structure p.intent p.fuel o.bit)) o.number) t.location)) (slice_get p.intent.strategies (strategy_of o.operator))
+operator_path p o = option_and_then (λ (t : Strategy). Some (path_by o.bit.path (slice_get (sides_of p (crossing p.structure p.intent (fuel_of p.structure) o.bit)) o.number) t.location)) (slice_get p.intent.strategies (strategy_of o.operator))
 
 abbrev pub is_path : Path → Option Path → Bool
 is_path p None = false

@@ -2,6 +2,9 @@ pub mod Controls
 pub mod Ends
 pub mod Implements
 pub mod Operators
+pub mod ProjectNetlists
 pub mod Projects
 pub mod Realises
 pub mod Samples
+pub mod Surroundings
+pub mod Tops

@@ -1,12 +1,15 @@
 -- All operators of a design, each with its place in its chain, and all switches (own rule).
 use Rattle.std.specs.Prelude.{ℕ, Bool, List, [], ◌∷◌, map, flat_map}
 use Rattle.lp_spec_design.specs.Keys.{Node, Way}
+use Rattle.lp_spec_design.specs.Instances.{Placed}
+use Rattle.lp_spec_design.specs.Nodes.{fuel_of}
 use Rattle.lp_spec_design.specs.Graph.{numbered}
 use Rattle.lp_spec_design.specs.Intents.{Origin, FromPort, FromSwitch}
 use Rattle.lp_spec_design.specs.Domains.{BoundaryBit, boundary, way_of, node_before}
-use Rattle.lp_spec_design.specs.Chains.{Operator, chain, rail}
+use Rattle.lp_spec_design.specs.Chains.{Operator, chain}
 use Rattle.lp_spec_design.specs.Winners.{crossing}
-use Rattle.lp_spec_realises.specs.Projects.{Project, Placed, network_of}
+use Rattle.lp_spec_design.specs.Settled.{rail_of}
+use Rattle.lp_spec_realises.specs.Projects.{Project, network_of, design_of}
 
 -- an operator: its boundary bit, its number in the chain from 0, and what it is
 pub record OperatorAt : Type 0 where
@@ -16,7 +19,7 @@ pub record OperatorAt : Type 0 where
 
 -- the chain of a boundary bit
 abbrev pub chain_of : Project → BoundaryBit → List Operator
-chain_of p b = chain (network_of p) p.intent (crossing p.structure p.intent p.fuel b) (rail p.structure (network_of p) p.intent p.fuel (node_before p.structure b))
+chain_of p b = chain (network_of p) p.intent (crossing p.structure p.intent (fuel_of p.structure) b) (rail_of (design_of p) (node_before p.structure b))
 
 abbrev pub operators_of_bit : Project → BoundaryBit → List OperatorAt
 operators_of_bit p b = map (λ x. record { bit = b; number = x.0; operator = x.1 }) (numbered 0 (chain_of p b))

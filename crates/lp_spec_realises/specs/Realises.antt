@@ -1,38 +1,34 @@
 -- When a netlist realises a source under its power intent (own rule).
-use Rattle.std.specs.Prelude.{ℕ, zero, suc, ◌==◌, Bool, true, false, not, ◌&&◌, List, [], ◌∷◌, ◌++◌, map, filter, length, Option, Some, None, is_some, option_and_then, if◌then◌else◌, bytes_eq, flat_map, slice_get, IsTrue}
+use Rattle.std.specs.Prelude.{ℕ, zero, suc, Bool, true, false, not, ◌&&◌, List, [], ◌∷◌, ◌++◌, map, filter, Option, Some, None, is_some, option_and_then, if◌then◌else◌, bytes_eq, slice_get, IsTrue}
 use Rattle.std.specs.List.{list_any, list_all}
 use Rattle.lp_model.specs.declared.library.Action.{Action}
 use Rattle.lp_model.specs.declared.library.PinUse.{PinUse}
 use Rattle.lp_model.specs.declared.library.PinUse.TheVariants.{Retain}
 use Rattle.lp_model.specs.declared.library.RetClass.TheVariants.{Save, Restore, Both}
 use Rattle.lp_model.specs.declared.supply.SetOrigins.{SetOrigins}
-use Rattle.lp_model.specs.NetlistView.{PortView, InstanceView, ModuleView}
+use Rattle.lp_model.specs.NetlistView.{PortView, ModuleView}
 use Rattle.lp_model.specs.LibraryView.{SwitchedView, PgPinView, PinView, CellView}
-use Rattle.lp_spec_design.specs.Keys.{Name, Path, same_path, same_bool, same_node, Node}
-use Rattle.lp_spec_design.specs.Netlists.{Structure, module_at, cell_at, indices, is_input}
-use Rattle.lp_spec_design.specs.Graph.{below, numbered, Reader, top_outputs}
+use Rattle.lp_spec_design.specs.Keys.{Path, same_path, same_node, Node}
+use Rattle.lp_spec_design.specs.Netlists.{Structure, cell_at, is_input}
+use Rattle.lp_spec_design.specs.Instances.{module_instances, Placed, cell_instances}
+use Rattle.lp_spec_design.specs.Nodes.{fuel_of}
+use Rattle.lp_spec_design.specs.Graph.{numbered, Reader, top_outputs}
 use Rattle.lp_spec_design.specs.Intents.{SupplySet, Origin, FromPort, FromSwitch, Strategy}
 use Rattle.lp_spec_design.specs.Domains.{domain_of, primary_of, way_of, node_before, supply_of_port}
 use Rattle.lp_spec_design.specs.Chains.{Operator, Clamp, Shift}
 use Rattle.lp_spec_design.specs.Registers.{retention}
 use Rattle.lp_spec_design.specs.Settled.{node_at_pin}
-use Rattle.lp_spec_pins.specs.Pins.{is_input_pin, is_data}
+use Rattle.lp_spec_pins.specs.Pins.{is_input_pin, is_data, only, input_for}
 use Rattle.lp_spec_network.specs.Pairs.{pairs_of}
 use Rattle.lp_spec_fit.specs.Joins.{Joins, source_joins, clamp_joins, shifter_joins, register_joins, switch_joins}
-use Rattle.lp_spec_fit.specs.Fits.{fits_clamp, fits_shifter, fits_register, fits_switch, input_for, one_output, is_iso_data, is_iso_enable, is_switch_pin, retention_pins, switched_pins, only}
-use Rattle.lp_spec_realises.specs.Projects.{Project, Placed, network_of, functions_of, on_expression}
+use Rattle.lp_spec_fit.specs.Fits.{fits_clamp, fits_shifter, fits_register, fits_switch, one_output, is_iso_data, is_iso_enable, is_switch_pin, retention_pins, switched_pins}
+use Rattle.lp_spec_realises.specs.Projects.{Project, network_of, port_of_origin, functions_of, on_expression}
+use Rattle.lp_spec_realises.specs.Tops.{top_ports, node_across}
+use Rattle.lp_spec_realises.specs.ProjectNetlists.{netlist_of, has_origin, IsProjectNetlist}
 use Rattle.lp_spec_realises.specs.Operators.{OperatorAt, all_operators, SwitchAt, all_switches, Placement, placed_operator, placed_switch}
 use Rattle.lp_spec_realises.specs.Ends.{End, AtTop, Nowhere, same_end, wire_end, end_at_pin, output_end, switched_end, intended, some_intended}
 
 -- ---- instances
-
-abbrev pub cells_in : Structure → Path → Option ModuleView → List Placed
-cells_in s p None = []
-cells_in s p (Some m) = map (λ (x : InstanceView). record { path = p; instance = x.name }) (filter (λ (x : InstanceView). is_some (cell_at s p x.name)) m.instances)
-
--- all cell instances; a design is at most 64 deep
-abbrev pub cell_instances : Structure → List Placed
-cell_instances s = flat_map (λ p. cells_in s p (module_at s p)) (below s 64 [])
 
 abbrev pub same_placed : Placed → Placed → Bool
 same_placed a b = bytes_eq a.instance b.instance && same_path a.path b.path
@@ -52,26 +48,13 @@ abbrev pub passed_by : (CellView → Bool) → Option CellView → Bool
 passed_by test None = false
 passed_by test (Some c) = test c
 
--- ---- part 1: the module instances have the paths of the source's, and the top has its ports with their widths and directions
+-- ---- part 1: the module instances have the paths of the source's
 
 abbrev pub has_path : List Path → Path → Bool
 has_path all p = list_any (same_path p) all
 
 abbrev pub same_paths : Structure → Structure → Bool
-same_paths s w = list_all (has_path (below w 64 [])) (below s 64 []) && list_all (has_path (below s 64 [])) (below w 64 [])
-
-abbrev pub same_port : PortView → PortView → Bool
-same_port a b = bytes_eq a.name b.name && (same_bool (is_input a) (is_input b) && (length (indices a.range) == length (indices b.range)))
-
-abbrev pub ports_of : Option ModuleView → List PortView
-ports_of None = []
-ports_of (Some m) = m.ports
-
-abbrev pub has_port : Structure → PortView → Bool
-has_port w a = list_any (same_port a) (ports_of (module_at w []))
-
-abbrev pub same_instances : Project → Structure → Bool
-same_instances p w = same_paths p.structure w && list_all (has_port w) (ports_of (module_at p.structure []))
+same_paths s w = list_all (has_path (module_instances w)) (module_instances s) && list_all (has_path (module_instances s)) (module_instances w)
 
 -- ---- part 2: the cells are the source's, registers with retention those that fit, and one that fits for each operator and each switch
 
@@ -137,7 +120,7 @@ abbrev pub inputs_begin : Project → Structure → Placement → ℕ → Placed
 inputs_begin p w at fuel a = passed_by (λ c. list_all (input_begins p w at fuel a) (filter is_input_pin c.pins)) (cell_of p.structure a)
 
 abbrev pub output_begins : Project → Structure → Placement → ℕ → Reader × Node → Bool
-output_begins p w at fuel r = same_end (wire_end w fuel r.1) (intended p w at r.1)
+output_begins p w at fuel r = same_end (wire_end w fuel (node_across p.structure w r.1)) (intended p w at r.1)
 
 -- the pin of an operator's cell that takes the data
 abbrev pub data_pin : Operator → CellView → Option PinView
@@ -208,7 +191,7 @@ origin_end p w at o = by (slice_get (network_of p).origins o)
   where
     by : Option Origin → End
     by None = Nowhere
-    by (Some FromPort) = AtTop (p.port_of_origin o) None
+    by (Some FromPort) = AtTop (port_of_origin p o) None
     by (Some (FromSwitch input control high)) = switched_end w (at.switch o)
 
 abbrev pub joined_end : Project → Structure → Placement → Option ℕ → End
@@ -274,16 +257,13 @@ switch_joined p w at fuel x = cell_joined p w at fuel (placed_switch at x) (join
 abbrev pub outer_supply : Project → PortView → Option SupplySet
 outer_supply p port = option_and_then (λ k. slice_get (network_of p).sets k) (supply_of_port (if is_input port then p.intent.drivers else p.intent.receivers) port.name (primary_of p.intent (domain_of p.intent [])))
 
-abbrev pub is_scalar_input : Name → PortView → Bool
-is_scalar_input n port = bytes_eq port.name n && (is_input port && not (is_some port.range))
-
--- the top has the port of an origin that is a port
+-- where the origin is a port, the top has it
 abbrev pub has_origin_port : Project → Structure → ℕ → Bool
 has_origin_port p w o = by (slice_get (network_of p).origins o)
   where
     by : Option Origin → Bool
     by None = false
-    by (Some FromPort) = list_any (is_scalar_input (p.port_of_origin o)) (ports_of (module_at w []))
+    by (Some FromPort) = has_origin p w o
     by (Some (FromSwitch input control high)) = true
 
 abbrev pub has_outer_ports : Project → Structure → Option SupplySet → Bool
@@ -295,15 +275,16 @@ supplies_begin p w at fuel =
     list_all (source_joined p w at fuel) (cell_instances p.structure)
     && (list_all (operator_joined p w at fuel) (all_operators p)
     && (list_all (switch_joined p w at fuel) (all_switches p)
-    && list_all (λ port. has_outer_ports p w (outer_supply p port)) (ports_of (module_at p.structure []))))
+    && list_all (λ port. has_outer_ports p w (outer_supply p port)) (top_ports p.structure)))
 
 -- ---- the whole
 
--- for some cell instances that stand for the operators and the switches; the fuel is the number of nodes of the netlist
-pub record Realises (p : Project) (w : Structure) (fuel : ℕ) : Type 0 where
+-- a netlist of the project, for some cell instances that stand for the operators and the switches
+pub record Realises (p : Project) (modules : List ModuleView) : Type 0 where
+  pub netlist : IsProjectNetlist p modules
   pub placement : Placement
-  pub instances : IsTrue (same_instances p w)
-  pub cells : IsTrue (has_the_cells p w placement)
-  pub wires : IsTrue (begins_right p w placement fuel)
-  pub controls : IsTrue (controls_begin p w placement fuel)
-  pub supplies : IsTrue (supplies_begin p w placement fuel)
+  pub instances : IsTrue (same_paths p.structure (netlist_of p modules))
+  pub cells : IsTrue (has_the_cells p (netlist_of p modules) placement)
+  pub wires : IsTrue (begins_right p (netlist_of p modules) placement (fuel_of (netlist_of p modules)))
+  pub controls : IsTrue (controls_begin p (netlist_of p modules) placement (fuel_of (netlist_of p modules)))
+  pub supplies : IsTrue (supplies_begin p (netlist_of p modules) placement (fuel_of (netlist_of p modules)))

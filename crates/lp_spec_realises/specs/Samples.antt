@@ -1,5 +1,5 @@
 -- A small design with its supplies, on which the definitions are computed.
-use Rattle.std.specs.Prelude.{ℕ, ◌==◌, List, [], ◌∷◌, Some, None, codes, if◌then◌else◌}
+use Rattle.std.specs.Prelude.{ℕ, List, [], ◌∷◌, Some, None, codes}
 use Rattle.lp_expr.specs.declared.step.Step.TheVariants.{Variable, Not}
 use Rattle.lp_model.specs.declared.intent.Applies.TheVariants.{Outputs}
 use Rattle.lp_model.specs.declared.intent.DeclaredState.{DeclaredState}
@@ -9,7 +9,6 @@ use Rattle.lp_model.specs.declared.supply.OriginKind.TheVariants.{Port}
 use Rattle.lp_model.specs.declared.supply.SetOrigins.{SetOrigins}
 use Rattle.lp_model.specs.declared.supply.Supplies.{Supplies}
 use Rattle.lp_model.specs.LibraryView.{CellView}
-use Rattle.lp_spec_design.specs.Keys.{Inner}
 use Rattle.lp_spec_design.specs.Intents.{Intent}
 use Rattle.lp_spec_design.specs.Samples.{plain, with_strategies, isolation}
 use Rattle.lp_spec_network.specs.Samples.{origin}
@@ -40,10 +39,8 @@ project i = record {
   structure = record plain { cells = cells };
   intent = i;
   supplies = supplies (On 1000000 ∷ Off ∷ []) (On 1000000 ∷ []);
-  node = λ k. Inner (codes "en") None [];
   margin = 0;
-  fuel = 8;
-  port_of_origin = λ o. if o == 0 then codes "lp_v_VDD" else if o == 1 then codes "lp_v_VDC" else codes "lp_v_VSS";
+  origin_names = codes "VDD" ∷ codes "VDC" ∷ codes "VDE" ∷ codes "VSS" ∷ [];
 }
 
 abbrev pub by_the_block : Intent

@@ -4,6 +4,7 @@ use Rattle.std.specs.Prelude.{codes, nat_lt}
 use Rattle.lp_model.specs.declared.fault.netlist.NetlistLimit.TheVariants as limits
 use Rattle.lp_model.specs.declared.netlist.Direction.TheVariants.{Output}
 use Rattle.lp_model.specs.NetlistView.{NetBit, SelectBit, ConstBit, ModuleView}
+use Rattle.lp_spec_design.specs.Nodes.{computing}
 use Rattle.lp_spec_design.specs.Samples.{port}
 use Rattle.lp_spec_pins.proofs.Clamped.{joined, outer, inner}
 use Rattle.lp_spec_written.specs.Samples.{any_cell, bare, clamped, read_twice, lower_block, clamped_outside, clamped_inside, fixed_input, wide_outside, wide_inside, higher_block, two_levels, fed, twins, top_output}
@@ -11,6 +12,7 @@ use Rattle.lp_spec_written.specs.Supplies.{wire, joined_to}
 use Rattle.lp_spec_faults.specs.Lines.{first_of}
 use Rattle.lp_spec_written.specs.Written.{written}
 use Rattle.lp_spec_written.specs.Limits.{added_names, name_limit}
+use Rattle.lp_spec_written.specs.Shared.{shared}
 use Rattle.lp_spec_written.proofs.Digits.{closed}
 use Rattle.lp_spec_written.proofs.Shapes.{input, output, instance}
 
@@ -43,6 +45,7 @@ abbrev pub bare_modules : List ModuleView
 bare_modules = bare_top ∷ bare_core ∷ []
 
 written_bare : written bare any_cell ≡ bare_modules
+unfolding computing
 written_bare = closed bare_modules (written bare any_cell) refl refl
 
 -- ---- a clamp in the block at its output
@@ -51,14 +54,16 @@ abbrev pub clamped_modules : List ModuleView
 clamped_modules = outer ∷ inner ∷ []
 
 pub written_clamped : written clamped any_cell ≡ clamped_modules
+unfolding computing
 written_clamped = closed clamped_modules (written clamped any_cell) refl refl
 
 -- the block, three supply ports, a control, a net and the clamp
 added_to_clamped : length (added_names clamped_modules) ≡ 7
+unfolding computing
 added_to_clamped = refl
 
 few_names : first_of (name_limit clamped any_cell) ≡ None
-few_names = ap (λ modules. cond (nat_lt 1000000000 (length (added_names modules))) (Some limits.Names) None) written_clamped
+few_names = ap (λ modules. cond (nat_lt 1000000000 (length (added_names (shared modules)))) (Some limits.Names) None) written_clamped
 
 -- ---- who reads the output in the block reads it before the clamp
 
@@ -91,6 +96,7 @@ abbrev pub read_twice_modules : List ModuleView
 read_twice_modules = read_twice_top ∷ read_twice_core ∷ []
 
 written_read_twice : written read_twice any_cell ≡ read_twice_modules
+unfolding computing
 written_read_twice = closed read_twice_modules (written read_twice any_cell) refl refl
 
 -- ---- a shifter before the clamp
@@ -112,6 +118,7 @@ abbrev pub shifted_modules : List ModuleView
 shifted_modules = outer ∷ shifted_core ∷ []
 
 written_shifted : written lower_block any_cell ≡ shifted_modules
+unfolding computing
 written_shifted = closed shifted_modules (written lower_block any_cell) refl refl
 
 -- ---- a clamp in the parent: the connection becomes a net
@@ -144,6 +151,7 @@ abbrev pub outside_modules : List ModuleView
 outside_modules = outside_top ∷ outside_core ∷ []
 
 written_outside : written clamped_outside any_cell ≡ outside_modules
+unfolding computing
 written_outside = closed outside_modules (written clamped_outside any_cell) refl refl
 
 -- ---- a clamp on each side of an input: the first one reads what stood there, and who reads the input reads the last net
@@ -177,6 +185,7 @@ abbrev pub inside_modules : List ModuleView
 inside_modules = inside_top ∷ inside_core ∷ []
 
 written_inside : written clamped_inside any_cell ≡ inside_modules
+unfolding computing
 written_inside = closed inside_modules (written clamped_inside any_cell) refl refl
 
 -- ---- a constant at an input is led to the clamp in the parent; connections by position get the names of the ports
@@ -209,6 +218,7 @@ abbrev pub fixed_modules : List ModuleView
 fixed_modules = fixed_top ∷ fixed_core ∷ []
 
 written_fixed : written fixed_input any_cell ≡ fixed_modules
+unfolding computing
 written_fixed = closed fixed_modules (written fixed_input any_cell) refl refl
 
 -- ---- one bit of an output: in the parent only that bit of the connection changes
@@ -243,6 +253,7 @@ abbrev pub wide_outside_modules : List ModuleView
 wide_outside_modules = wide_outside_top ∷ wide_outside_core ∷ []
 
 written_wide_outside : written wide_outside any_cell ≡ wide_outside_modules
+unfolding computing
 written_wide_outside = closed wide_outside_modules (written wide_outside any_cell) refl refl
 
 -- ---- in the block only that bit gets another name
@@ -277,6 +288,7 @@ abbrev pub wide_inside_modules : List ModuleView
 wide_inside_modules = wide_inside_top ∷ wide_inside_core ∷ []
 
 written_wide_inside : written wide_inside any_cell ≡ wide_inside_modules
+unfolding computing
 written_wide_inside = closed wide_inside_modules (written wide_inside any_cell) refl refl
 
 -- ---- a clamp and a shifter at an input: who reads the input in the block reads the last net
@@ -298,6 +310,7 @@ abbrev pub higher_modules : List ModuleView
 higher_modules = outer ∷ higher_core ∷ []
 
 written_higher : written higher_block any_cell ≡ higher_modules
+unfolding computing
 written_higher = closed higher_modules (written higher_block any_cell) refl refl
 
 -- ---- a clamp of an instance in the block, and one of the block: the bit that stood in the connection is itself renamed
@@ -342,6 +355,7 @@ abbrev pub two_levels_modules : List ModuleView
 two_levels_modules = two_levels_top ∷ two_levels_around ∷ two_levels_core ∷ []
 
 written_two_levels : written two_levels any_cell ≡ two_levels_modules
+unfolding computing
 written_two_levels = closed two_levels_modules (written two_levels any_cell) refl refl
 
 -- ---- nets count in port order, an assign drives the net, and a port without readers has no clamp
@@ -375,6 +389,7 @@ abbrev pub fed_modules : List ModuleView
 fed_modules = fed_top ∷ fed_core ∷ []
 
 written_fed : written fed any_cell ≡ fed_modules
+unfolding computing
 written_fed = closed fed_modules (written fed any_cell) refl refl
 
 -- ---- two copies of one module, which differ; an open port stays open
@@ -407,6 +422,7 @@ abbrev pub twins_modules : List ModuleView
 twins_modules = twins_top ∷ inner ∷ twins_core ∷ []
 
 written_twins : written twins any_cell ≡ twins_modules
+unfolding computing
 written_twins = closed twins_modules (written twins any_cell) refl refl
 
 -- ---- a clamp of the top's own output
@@ -439,4 +455,5 @@ abbrev pub top_output_modules : List ModuleView
 top_output_modules = top_output_top ∷ top_output_core ∷ []
 
 written_top_output : written top_output any_cell ≡ top_output_modules
+unfolding computing
 written_top_output = closed top_output_modules (written top_output any_cell) refl refl

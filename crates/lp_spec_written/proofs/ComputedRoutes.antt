@@ -2,6 +2,7 @@
 use Rattle.std.proofs.Common.{◌≡◌, List, [], ◌∷◌, refl}
 use Rattle.std.specs.Prelude.{codes}
 use Rattle.lp_model.specs.NetlistView.{NetBit, ModuleView}
+use Rattle.lp_spec_design.specs.Nodes.{computing}
 use Rattle.lp_spec_pins.proofs.Clamped.{joined}
 use Rattle.lp_spec_written.specs.Samples.{any_cell, control_from_inside, control_renamed, control_beside, control_below, control_first_above, control_across, retained, retained_by_one}
 use Rattle.lp_spec_written.specs.Supplies.{wire}
@@ -39,6 +40,7 @@ abbrev pub from_inside_modules : List ModuleView
 from_inside_modules = from_inside_top ∷ from_inside_core ∷ []
 
 written_from_inside : written control_from_inside any_cell ≡ from_inside_modules
+unfolding computing
 written_from_inside = closed from_inside_modules (written control_from_inside any_cell) refl refl
 
 -- ---- a control's bit is renamed as every reference to it
@@ -72,6 +74,7 @@ abbrev pub renamed_modules : List ModuleView
 renamed_modules = renamed_top ∷ renamed_core ∷ []
 
 written_renamed : written control_renamed any_cell ≡ renamed_modules
+unfolding computing
 written_renamed = closed renamed_modules (written control_renamed any_cell) refl refl
 
 -- ---- a control in a sibling, for a clamp in the block and one in the top: the wire in the top is used again
@@ -115,6 +118,7 @@ abbrev pub beside_modules : List ModuleView
 beside_modules = beside_top ∷ beside_core ∷ beside_source ∷ []
 
 written_beside : written control_beside any_cell ≡ beside_modules
+unfolding computing
 written_beside = closed beside_modules (written control_beside any_cell) refl refl
 
 -- ---- a control below the block, for a clamp in the block and then one in the top: the wire in the block gets a port, joined by an assign
@@ -158,6 +162,7 @@ abbrev pub below_modules : List ModuleView
 below_modules = below_top ∷ below_core ∷ below_source ∷ []
 
 written_below : written control_below any_cell ≡ below_modules
+unfolding computing
 written_below = closed below_modules (written control_below any_cell) refl refl
 
 -- ---- the other way round: the port in the block is there, and no wire is made
@@ -201,6 +206,7 @@ abbrev pub first_above_modules : List ModuleView
 first_above_modules = first_above_top ∷ first_above_core ∷ below_source_again ∷ []
 
 written_first_above : written control_first_above any_cell ≡ first_above_modules
+unfolding computing
 written_first_above = closed first_above_modules (written control_first_above any_cell) refl refl
 
 -- ---- a register with retention: the chosen cell, with its save and its restore pin
@@ -232,6 +238,7 @@ abbrev pub retained_modules : List ModuleView
 retained_modules = retained_top ∷ retained_core ∷ []
 
 written_retained : written retained any_cell ≡ retained_modules
+unfolding computing
 written_retained = closed retained_modules (written retained any_cell) refl refl
 
 -- ---- a control in one block for two clamps in the other: it goes up by ports, and comes down by ports that the second clamp uses too
@@ -299,6 +306,7 @@ abbrev pub across_modules : List ModuleView
 across_modules = across_top ∷ across_u ∷ across_uw ∷ across_v ∷ across_vw ∷ []
 
 written_across : written control_across any_cell ≡ across_modules
+unfolding computing
 written_across = closed across_modules (written control_across any_cell) refl refl
 
 -- ---- one pin that saves and restores
@@ -330,4 +338,5 @@ abbrev pub by_one_modules : List ModuleView
 by_one_modules = by_one_top ∷ by_one_core ∷ []
 
 written_by_one : written retained_by_one any_cell ≡ by_one_modules
+unfolding computing
 written_by_one = closed by_one_modules (written retained_by_one any_cell) refl refl

@@ -2,6 +2,7 @@
 use Rattle.std.proofs.Common.{◌≡◌, List, [], ◌∷◌, refl}
 use Rattle.std.specs.Prelude.{codes}
 use Rattle.lp_model.specs.NetlistView.{ModuleView}
+use Rattle.lp_spec_design.specs.Nodes.{computing}
 use Rattle.lp_spec_design.specs.Samples.{with_strategies}
 use Rattle.lp_spec_pins.proofs.Clamped.{joined}
 use Rattle.lp_spec_written.specs.Samples.{any_cell, switched, nested, in_the_block, exchanged}
@@ -40,6 +41,7 @@ abbrev pub switched_modules : List ModuleView
 switched_modules = switched_top ∷ switched_core ∷ []
 
 written_switched : written (switched (with_strategies [])) any_cell ≡ switched_modules
+unfolding computing
 written_switched = closed switched_modules (written (switched (with_strategies [])) any_cell) refl refl
 
 -- ---- a switch in the block that it feeds: the wire is there
@@ -72,6 +74,7 @@ abbrev pub switched_inside_modules : List ModuleView
 switched_inside_modules = switched_inside_top ∷ switched_inside_core ∷ []
 
 written_switched_inside : written (switched (with_strategies [])) in_the_block ≡ switched_inside_modules
+unfolding computing
 written_switched_inside = closed switched_inside_modules (written (switched (with_strategies [])) in_the_block) refl refl
 
 -- ---- a switch in the block that feeds the top: an output port, and a wire in the top
@@ -104,6 +107,7 @@ abbrev pub switched_outwards_modules : List ModuleView
 switched_outwards_modules = switched_outwards_top ∷ switched_outwards_core ∷ []
 
 written_switched_outwards : written (switched exchanged) in_the_block ≡ switched_outwards_modules
+unfolding computing
 written_switched_outwards = closed switched_outwards_modules (written (switched exchanged) in_the_block) refl refl
 
 -- ---- supplies go through a block without cells of its own
@@ -148,4 +152,5 @@ abbrev pub nested_modules : List ModuleView
 nested_modules = nested_top ∷ nested_around ∷ nested_core ∷ []
 
 written_nested : written nested any_cell ≡ nested_modules
+unfolding computing
 written_nested = closed nested_modules (written nested any_cell) refl refl

@@ -4,7 +4,9 @@ use Rattle.std.specs.List.{list_all}
 use Rattle.lp_model.specs.NetlistView.{ModuleView}
 use Rattle.lp_spec_design.specs.Keys.{Path, Node, Inner}
 use Rattle.lp_spec_design.specs.Netlists.{Structure, module_at, node_of}
+use Rattle.lp_spec_design.specs.Nodes.{fuel_of}
 use Rattle.lp_spec_realises.specs.Projects.{Project}
+use Rattle.lp_spec_realises.specs.ProjectNetlists.{netlist_of}
 use Rattle.lp_spec_realises.specs.Operators.{Placement}
 use Rattle.lp_spec_realises.specs.Ends.{same_end, wire_end, intended}
 use Rattle.lp_spec_realises.specs.Controls.{all_bits}
@@ -38,7 +40,7 @@ abbrev pub bits_begin : Project → Structure → Placement → ℕ → List (No
 bits_begin p w at fuel bits = list_all (bit_begins p w at fuel) bits
 
 -- it realises the project by the chosen cells in their places, and each net bit of the source can be found in it
-pub record Implements (p : Project) (l : Lists) (w : Structure) (fuel : ℕ) : Type 0 where
-  pub realises : Realises p w fuel
-  pub cells : IsTrue (as_chosen p w l realises.placement)
-  pub bits : IsTrue (bits_begin p w realises.placement fuel (named_bits p l))
+pub record Implements (p : Project) (l : Lists) (modules : List ModuleView) : Type 0 where
+  pub realises : Realises p modules
+  pub cells : IsTrue (as_chosen p (netlist_of p modules) l realises.placement)
+  pub bits : IsTrue (bits_begin p (netlist_of p modules) realises.placement (fuel_of (netlist_of p modules)) (named_bits p l))

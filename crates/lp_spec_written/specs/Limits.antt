@@ -1,5 +1,5 @@
 -- The line of the table of faults about the names of the written netlist (own rule).
-use Rattle.std.specs.Prelude.{ℕ, nat_lt, nat_eq, Bool, List, [], ◌∷◌, ◌++◌, map, filter, flat_map, length, if◌then◌else◌, bytes_eq, codes}
+use Rattle.std.specs.Prelude.{nat_lt, nat_eq, List, [], ◌∷◌, ◌++◌, map, filter, flat_map, length, if◌then◌else◌, bytes_eq, codes}
 use Rattle.std.specs.List.{list_any, starts_with}
 use Rattle.lp_model.specs.declared.fault.netlist.NetlistLimit.{NetlistLimit}
 use Rattle.lp_model.specs.declared.fault.netlist.NetlistLimit.TheVariants as limits
@@ -8,6 +8,7 @@ use Rattle.lp_spec_design.specs.Keys.{Name}
 use Rattle.lp_spec_realises.specs.Projects.{Project}
 use Rattle.lp_spec_realises.specs.Implements.{Lists}
 use Rattle.lp_spec_faults.specs.Lines.{Line}
+use Rattle.lp_spec_written.specs.Shared.{shared}
 use Rattle.lp_spec_written.specs.Written.{written}
 
 -- of a module its own name, and those of its ports, its nets and its instances
@@ -23,6 +24,10 @@ once (n ∷ names) = if list_any (bytes_eq n) names then once names else n ∷ o
 abbrev pub added_names : List ModuleView → List Name
 added_names modules = once (filter (λ n. starts_with nat_eq n (codes "lp_")) (flat_map names_in modules))
 
+-- those of the netlist as it is written, with each content once
+abbrev pub names_added : Project → Lists → List Name
+names_added p l = added_names (shared (written p l))
+
 -- F22 Limit 5: the written netlist has more than 1,000,000,000 of them
 abbrev pub name_limit : Project → Lists → Line NetlistLimit
-name_limit p l = record { places = limits.Names ∷ []; test = λ k. nat_lt 1000000000 (length (added_names (written p l))) }
+name_limit p l = record { places = limits.Names ∷ []; test = λ k. nat_lt 1000000000 (length (names_added p l)) }

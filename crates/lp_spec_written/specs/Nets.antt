@@ -7,7 +7,7 @@ use Rattle.lp_spec_design.specs.Netlists.{Structure, first, module_at, module_na
 use Rattle.lp_spec_design.specs.Graph.{pairs, some_of, when}
 use Rattle.lp_spec_design.specs.Domains.{BoundaryBit, boundary, way_of}
 use Rattle.lp_spec_realises.specs.Projects.{Project}
-use Rattle.lp_spec_realises.specs.Realises.{ports_of}
+use Rattle.lp_spec_realises.specs.Tops.{ports_of}
 use Rattle.lp_spec_written.specs.Places.{instances, with_number, Standing, Plan}
 
 -- ---- bits

@@ -2,22 +2,22 @@
 use Rattle.std.specs.Prelude.{ℕ, ◌+◌, Bool, true, false, List, [], ◌∷◌, ◌++◌, filter, Option, Some, None, option_and_then, unwrap_or, codes, decimal, slice_get}
 use Rattle.lp_model.specs.LibraryView.{CellView}
 use Rattle.lp_spec_design.specs.Keys.{Name, Path, same_path}
-use Rattle.lp_spec_design.specs.Graph.{below, numbered, some_of}
+use Rattle.lp_spec_design.specs.Instances.{Placed, cell_instances, module_instances}
+use Rattle.lp_spec_design.specs.Graph.{numbered, some_of}
 use Rattle.lp_spec_design.specs.Intents.{Strategy}
 use Rattle.lp_spec_design.specs.Domains.{first_number}
 use Rattle.lp_spec_design.specs.Winners.{one_if}
 use Rattle.lp_spec_design.specs.Chains.{Operator, Clamp, Shift}
 use Rattle.lp_spec_design.specs.Registers.{retention}
-use Rattle.lp_spec_realises.specs.Projects.{Project, Placed}
+use Rattle.lp_spec_realises.specs.Projects.{Project}
 use Rattle.lp_spec_realises.specs.Operators.{OperatorAt, all_operators, SwitchAt, all_switches}
-use Rattle.lp_spec_realises.specs.Realises.{cell_instances}
 use Rattle.lp_spec_realises.specs.Implements.{Lists, operator_path, operator_chosen, switch_chosen, register_chosen, is_retained}
 
 -- ---- instances
 
--- in preorder, the top first; a design is at most 64 deep
+-- in preorder, the top first
 abbrev pub instances : Project → List Path
-instances p = below p.structure 64 []
+instances p = module_instances p.structure
 
 -- the preorder number of a module instance; the top is 0
 abbrev pub instance_number : Project → Path → ℕ

@@ -1,5 +1,5 @@
 -- Small designs on which the written netlists are computed.
-use Rattle.std.specs.Prelude.{◌==◌, false, List, [], ◌∷◌, ◌++◌, Some, None, codes, if◌then◌else◌}
+use Rattle.std.specs.Prelude.{false, List, [], ◌∷◌, ◌++◌, Some, None, codes}
 use Rattle.lp_model.specs.declared.intent.Applies.{Applies}
 use Rattle.lp_model.specs.declared.intent.Applies.TheVariants.{Inputs, Outputs}
 use Rattle.lp_model.specs.declared.intent.DeclaredState.{DeclaredState}
@@ -39,10 +39,8 @@ project modules i = record {
   structure = record { modules = modules; cells = cells };
   intent = i;
   supplies = supplies (On 1000000 ∷ Off ∷ []);
-  node = λ k. Inner (codes "en") None [];
   margin = 0;
-  fuel = 8;
-  port_of_origin = λ o. if o == 0 then codes "lp_v_VDD" else if o == 1 then codes "lp_v_VDC" else codes "lp_v_VSS";
+  origin_names = codes "VDD" ∷ codes "VDC" ∷ codes "VSS" ∷ [];
 }
 
 -- no strategy names cells, and switches are made in the top
@@ -124,7 +122,7 @@ top_output = project (top ∷ core ∷ []) (with_strategies (isolation 0 (Some (
 -- the block's power comes through a switch from the top's, on where en is 0
 abbrev pub switched_supplies : Supplies
 switched_supplies = record {
-  origins = origin 0 (Port (On 1000000 ∷ [])) ∷ origin 0 (Switch (record { 0 = 0 }) (record { 0 = 0 }) false) ∷ origin 2 (Port []) ∷ [];
+  origins = origin 0 (Port (On 1000000 ∷ [])) ∷ origin 0 (Switch (record { 0 = 0 }) (record { 0 = 1 }) false) ∷ origin 2 (Port []) ∷ [];
   rows = [];
   sets = Some (set_of 0) ∷ Some (set_of 1) ∷ [];
 }
@@ -224,7 +222,7 @@ abbrev pub by_the_other : Strategy → Strategy
 by_the_other t = by_control (Inner (codes "i") None (codes "w" ∷ codes "u" ∷ [])) t
 
 abbrev pub control_across : Project
-control_across = record (project (side_by_side ∷ around ∷ core ∷ []) (record (with_strategies (by_the_other (isolation 1 None Outputs) ∷ by_the_other (isolation 0 (Some (AtInstance clamped_instance ∷ [])) Inputs) ∷ [])) { domains = record { elements = [] ∷ []; primary = Some 0; isolation = None; retention = None } ∷ record { elements = clamped_instance ∷ []; primary = Some 1; isolation = None; retention = None } ∷ [] })) { fuel = 16 }
+control_across = project (side_by_side ∷ around ∷ core ∷ []) (record (with_strategies (by_the_other (isolation 1 None Outputs) ∷ by_the_other (isolation 0 (Some (AtInstance clamped_instance ∷ [])) Inputs) ∷ [])) { domains = record { elements = [] ∷ []; primary = Some 0; isolation = None; retention = None } ∷ record { elements = clamped_instance ∷ []; primary = Some 1; isolation = None; retention = None } ∷ [] })
 
 -- a register with retention, whose copy the top's supply keeps
 abbrev pub retained : Project

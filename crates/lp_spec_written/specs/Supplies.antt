@@ -7,12 +7,13 @@ use Rattle.lp_model.specs.NetlistView.{BitView, NetBit, PortView, NetView, Conne
 use Rattle.lp_model.specs.LibraryView.{CellView}
 use Rattle.lp_spec_design.specs.Keys.{Name, Path, same_path}
 use Rattle.lp_spec_design.specs.Netlists.{first}
+use Rattle.lp_spec_design.specs.Instances.{Placed, cell_instances}
 use Rattle.lp_spec_design.specs.Graph.{numbered, some_of, when}
 use Rattle.lp_spec_design.specs.Intents.{Origin, FromPort, FromSwitch}
 use Rattle.lp_spec_design.specs.Registers.{is_above}
 use Rattle.lp_spec_fit.specs.Joins.{Joins}
-use Rattle.lp_spec_realises.specs.Projects.{Project, Placed, network_of}
-use Rattle.lp_spec_realises.specs.Realises.{cell_instances, cell_of, same_placed, joins_of_source, joins_of_operator, joins_of_switch}
+use Rattle.lp_spec_realises.specs.Projects.{Project, network_of, port_of_origin}
+use Rattle.lp_spec_realises.specs.Realises.{cell_of, same_placed, joins_of_source, joins_of_operator, joins_of_switch}
 use Rattle.lp_spec_written.specs.Places.{with_number, Standing, Kept, Switching, Plan}
 
 -- ---- what each power and ground pin is joined to
@@ -110,7 +111,7 @@ abbrev pub origin_port : Project → Plan → List Use → Path → ℕ × Origi
 origin_port p a all x o = by o.1
   where
     by : Origin → Option PortView
-    by FromPort = when (has_port_of all o.0 x) (scalar (p.port_of_origin o.0) Input)
+    by FromPort = when (has_port_of all o.0 x) (scalar (port_of_origin p o.0) Input)
     by (FromSwitch input control high) = option_and_then (λ w. switch_port all w x) (switch_of a o.0)
 
 -- lp_v and lp_w, in the order of the origins
@@ -133,7 +134,7 @@ abbrev pub origin_bits : Project → Plan → ℕ → List BitView
 origin_bits p a o = by (slice_get (network_of p).origins o) (switch_of a o)
   where
     by : Option Origin → Option Switching → List BitView
-    by (Some FromPort) w = NetBit (p.port_of_origin o) ∷ []
+    by (Some FromPort) w = NetBit (port_of_origin p o) ∷ []
     by (Some (FromSwitch input control high)) (Some w) = NetBit (switch_net w) ∷ []
     by _ _ = []
 

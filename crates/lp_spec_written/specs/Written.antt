@@ -4,9 +4,11 @@ use Rattle.lp_model.specs.NetlistView.{BitView, NetBit, PortView, NetView, Conne
 use Rattle.lp_model.specs.LibraryView.{PinView}
 use Rattle.lp_spec_design.specs.Keys.{Name, Path}
 use Rattle.lp_spec_design.specs.Netlists.{module_named, module_at}
+use Rattle.lp_spec_design.specs.Instances.{Placed}
 use Rattle.lp_spec_design.specs.Graph.{numbered, pairs, some_of}
-use Rattle.lp_spec_fit.specs.Fits.{input_for, one_output, is_iso_enable, is_switch_pin, retention_pins}
-use Rattle.lp_spec_realises.specs.Projects.{Project, Placed}
+use Rattle.lp_spec_pins.specs.Pins.{input_for}
+use Rattle.lp_spec_fit.specs.Fits.{one_output, is_iso_enable, is_switch_pin, retention_pins}
+use Rattle.lp_spec_realises.specs.Projects.{Project}
 use Rattle.lp_spec_realises.specs.Realises.{data_pin, control_of}
 use Rattle.lp_spec_realises.specs.Implements.{Lists}
 use Rattle.lp_spec_written.specs.Places.{instances, instance_number, with_number, Kept, Switching, Plan, plan, operator_names, switches_in}

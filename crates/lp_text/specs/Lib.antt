@@ -3,4 +3,5 @@ pub mod Micros
 pub mod Numbers
 pub mod Places
 pub mod Shelf
+pub mod Streams
 pub mod Texts

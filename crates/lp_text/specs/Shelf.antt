@@ -104,10 +104,3 @@ Misses (Ok v) name old new = new ≡ old
 Misses (Err Failed) name old new = new ≡ option_map (λ _. Some name) old
 Misses (Err TooLong) name old new = new ≡ old
 Misses (Err NoMemory) name old new = new ≡ old
-
--- a read to a reader's end gives its bytes, and is too long only above the limit, where the reader tells its bytes
-abbrev pub ReadsWhole : {T : Type 0} → (T → List ℕ) → Option (List ℕ) → Result T ShelfFault → Type 0
-ReadsWhole items bytes (Ok v) = IfSome bytes (λ xs. items v ≡ xs)
-ReadsWhole items bytes (Err Failed) = Unit {0}
-ReadsWhole items bytes (Err TooLong) = IfSome bytes (λ xs. LIMIT < length xs)
-ReadsWhole items bytes (Err NoMemory) = Unit {0}

@@ -13,6 +13,7 @@ mod never;
 mod place;
 mod shelf;
 mod store;
+mod stream;
 mod word;
 
 pub use bytes::Bytes;

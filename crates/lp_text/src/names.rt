@@ -8,11 +8,11 @@ use std::marker::Model;
 use thiserror::Error;
 
 /// The number of a name in its table, from 0.
-#[derive(Clone, Copy, Debug, PartialEq, Eq, PartialOrd, Ord, Hash)]
+#[derive(Clone, Copy, Debug, PartialEq, Eq)]
 pub struct NameId(pub u32);
 
 /// Why a table takes no name.
-#[derive(Clone, Copy, Debug, PartialEq, Eq, Error)]
+#[derive(Clone, Copy, Debug, Error)]
 pub enum NamesFault {
     /// The text is new, and 4,294,967,295 names are held.
     #[error("too many names")]

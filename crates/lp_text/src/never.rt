@@ -12,7 +12,7 @@ use std::alloc::Global;
 use std::marker::Model;
 
 /// A shelf in memory whose calls never fail. A name that it lacks reads as empty.
-#[derive(Debug, Drop)]
+#[derive(Drop)]
 pub struct NeverFails {
     files: Store,
     said: Vec<u8>,

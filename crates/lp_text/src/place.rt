@@ -2,7 +2,7 @@ ghost use Rattle.std.specs.Prelude.{◌≡◌, ◌-◌, ◌<◌, ◌≤◌, ◌^
 ghost use Rattle.lp_text.specs.Places.{place_in};
 
 /// Where a byte stands in a text: both numbers count from 1, the column in bytes.
-#[derive(Clone, Copy, Debug, PartialEq, Eq, PartialOrd, Ord)]
+#[derive(Clone, Copy, Debug)]
 pub struct Place {
     /// The line, from 1.
     pub line: u32,

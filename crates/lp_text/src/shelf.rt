@@ -9,7 +9,7 @@ use thiserror::Error;
 pub const LIMIT: usize = 67_108_864;
 
 /// Why a call of a shelf gave up.
-#[derive(Clone, Copy, Debug, PartialEq, Eq, Error)]
+#[derive(Clone, Copy, Debug, Error)]
 pub enum ShelfFault {
     /// The outside refused the call.
     #[error("the call failed")]

@@ -14,7 +14,7 @@ use std::marker::Model;
 /// Files in memory: what was put under each name, the newest first.
 ///
 /// An older file under the same name stays behind the newer one, so a store suits few writes.
-#[derive(Debug, Drop)]
+#[derive(Drop)]
 pub(crate) struct Store {
     files: VecDeque<(Word, Bytes)>,
     alloc: Global,

@@ -4,7 +4,7 @@ use Rattle.std.specs.Prelude.{bytes_eq, Err}
 use Rattle.std.specs.List.{list_all, flat_map}
 use Rattle.std.proofs.lemmas.List.{append-nil}
 use Rattle.std.proofs.lemmas.Bool.{not-true}
-use Rattle.lp_spec_settling.specs.Settling.{IsOrder, Covers}
+use Rattle.lp_spec_settling.specs.Settling.{HasOrder}
 use Rattle.lp_model.specs.Agreement.{numbers_below}
 use Rattle.lp_model.specs.declared.library.Cell.{Cell}
 use Rattle.lp_model.specs.declared.netlist.Module.{Module}
@@ -12,11 +12,9 @@ use Rattle.lp_model.specs.declared.netlist.Netlist.{Netlist}
 use Rattle.lp_model.specs.NetlistView.{ModuleView, module_view, module_numbers, netlist_view, netlist_numbers}
 use Rattle.lp_model.specs.LibraryView.{CellView, cell_view}
 use Rattle.lp_spec_design.specs.Keys.{Name}
-use Rattle.lp_spec_design.specs.Settled.{Event, Key}
-use Rattle.lp_spec_design.specs.Registers.{States}
 use Rattle.lp_spec_design.specs.Reads.{keys, reads}
 use Rattle.lp_spec_pins.specs.Supplied.{is_supplied}
-use Rattle.lp_spec_plain.specs.Alike.{RunsAlike}
+use Rattle.lp_spec_plain.specs.Alike.{BehavesAlike}
 use Rattle.lp_spec_plain_module.specs.Designs.{Flat, design_of}
 use Rattle.lp_spec_plain_module.specs.Netlists.{powered, netlist_of, origin_of}
 use Rattle.lp_spec_plain_module.specs.Tests.{is_flat}
@@ -90,7 +88,7 @@ module _ (inputs : Inputs) (a : Accepted) (is : IsAccepted inputs a) (margin : �
     reported = r;
   }
 
-  pub promise-headline : ((f : Flat) → is_flat f ≡ true → (order : List Key) → IsOrder keys (reads (design_of f)) order → Covers keys (reads (design_of f)) order → (events : List Event) (states : States) → RunsAlike (design_of f) (netlist_of f) (origin_of f) events states) → HeadlineHolds inputs margin netlist
+  pub promise-headline : ((f : Flat) → is_flat f ≡ true → HasOrder keys (reads (design_of f)) → BehavesAlike (design_of f) (netlist_of f) (origin_of f)) → HeadlineHolds inputs margin netlist
   unfolding design
   promise-headline alike = record {
     design = design;
@@ -98,7 +96,7 @@ module _ (inputs : Inputs) (a : Accepted) (is : IsAccepted inputs a) (margin : �
     reads = reads_same;
     only = only;
     supplied = supplied f flat;
-    headline = λ events states. let o = is.ordered margin in alike f flat o.order o.is_order o.covers events states;
+    headline = alike f flat (is.ordered margin);
   }
 
 -- ---- the netlist that is written

@@ -12,7 +12,7 @@ use Rattle.lp_top.specs.declared.outcome.Outcome.{Outcome}
 use Rattle.lp_top.specs.declared.outcome.Outcome.TheVariants.{Done, Refused, TooLong, Usage, ReadFault, WriteFault, NoMemory}
 use Rattle.lp_top.specs.Reading.{count_more, HoldsAll}
 use Rattle.lp_top.specs.Words.{CommandFiles, clashes, input_files, inputs_in}
-use Rattle.lp_top.specs.Ran.{Texts, ByFiles, ByCause, ByMissed}
+use Rattle.lp_top.specs.Ran.{Texts, InputsRead, ByFiles, ByCause, ByMissed}
 use Rattle.lp_top.specs.Inserting.{inputs_read, StoresBoth, MissesWrite, IsNoUsage}
 
 or_left : (a b : Bool) → (a || b) ≡ false → a ≡ false
@@ -34,6 +34,11 @@ pub written-held : (held : Option Files) (c : CommandFiles) (texts : List (List 
 written-held None c texts netlist report h w = tt
 written-held (Some files) c texts netlist report h w = subst (λ t. IsWritten (inputs_read t) 0 netlist report) h.0 w
 
+-- where what was read is what is held, every input file is within the limit
+pub read-held : (held : Option Files) (c : CommandFiles) (texts : List (List ℕ)) → HoldsAll held (input_files c) texts → InputsRead c held
+read-held None c texts h = tt
+read-held (Some files) c texts h = h.1
+
 pub headline-held : (held : Option Files) (c : CommandFiles) (texts : List (List ℕ)) (netlist : List ℕ) → HoldsAll held (input_files c) texts
     → HeadlineHolds (inputs_read texts) 0 netlist → IfSome held (λ files. HeadlineHolds (inputs_in files c) 0 netlist)
 headline-held None c texts netlist h w = tt
@@ -46,20 +51,25 @@ fault-held (Some files) c texts line h w = subst (λ t. FirstFault (inputs_read 
 
 -- storing the texts ends as a run ends
 pub stores-files : (c : CommandFiles) (old new : Option Files) (netlist report : List ℕ) (outcome : Outcome)
-    → IfSome old (λ files. IsWritten (inputs_in files c) 0 netlist report) → IfSome old (λ files. HeadlineHolds (inputs_in files c) 0 netlist)
+    → InputsRead c old → IfSome old (λ files. IsWritten (inputs_in files c) 0 netlist report) → IfSome old (λ files. HeadlineHolds (inputs_in files c) 0 netlist)
     → StoresBoth c netlist report old new outcome → ByFiles c old new outcome
-stores-files c old new netlist report Done w h s = record { texts = record { netlist = netlist; report = report; written = w; headline = h }; stored = s }
-stores-files c old new netlist report (Refused f) w h s = absurd s
-stores-files c old new netlist report (TooLong k) w h s = absurd s
-stores-files c old new netlist report (Usage u) w h s = absurd s
-stores-files c old new netlist report (ReadFault k) w h s = absurd s
-stores-files c old new netlist report (WriteFault k) w h s =
-    let texts : Texts old c = record { netlist = netlist; report = report; written = w; headline = h } in
+stores-files c old new netlist report Done r w h s = record { texts = record { read = r; netlist = netlist; report = report; written = w; headline = h }; stored = s }
+stores-files c old new netlist report (Refused f) r w h s = absurd s
+stores-files c old new netlist report (TooLong k) r w h s = absurd s
+stores-files c old new netlist report (Usage u) r w h s = absurd s
+stores-files c old new netlist report (ReadFault k) r w h s = absurd s
+stores-files c old new netlist report (WriteFault k) r w h s =
+    let texts : Texts old c = record { read = r; netlist = netlist; report = report; written = w; headline = h } in
     elim s [
       | inl part ↦ inl (part.0, record { texts = texts; part = part.1 })
       | inr part ↦ inr (part.0, record { texts = texts; part = part.1 })
     ]
-stores-files c old new netlist report NoMemory w h s = tt
+stores-files c old new netlist report NoMemory r w h s =
+    let texts : Texts old c = record { read = r; netlist = netlist; report = report; written = w; headline = h } in
+    elim s [
+      | inl part ↦ inr (inl (record { texts = texts; part = part }))
+      | inr part ↦ inr (inr (record { texts = texts; part = part }))
+    ]
 
 pub stores-no_usage : (c : CommandFiles) (old new : Option Files) (netlist report : List ℕ) (outcome : Outcome) → StoresBoth c netlist report old new outcome → IsNoUsage outcome
 stores-no_usage c old new netlist report Done s = tt

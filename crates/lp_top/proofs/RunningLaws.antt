@@ -8,7 +8,7 @@ use Rattle.std.specs.Cmp.Lexicographic.{nat_list_cmp_total, texts_ties}
 use Rattle.std.proofs.lemmas.Bool.{both_ways}
 use Rattle.std.proofs.lemmas.Slice.Eq.{bytes_eq-Decides}
 use Rattle.lp_text.specs.declared.shelf.ShelfFault.{ShelfFault}
-use Rattle.lp_text.specs.Shelf.{Files, Faults, LAST, count_up, Rises, content, with_said, SayHolds}
+use Rattle.lp_text.specs.Shelf.{Files, Faults, LAST, count_up, Rises, content, with_file, with_said, SayHolds}
 use Rattle.lp_model.specs.NetlistView.{ModuleView}
 use Rattle.lp_model.specs.LibraryView.{CellView}
 use Rattle.lp_plain_upf.specs.declared.plain.Intent.{Intent}
@@ -21,7 +21,7 @@ use Rattle.lp_top.specs.declared.outcome.Outcome.TheVariants.{Done, Refused, Too
 use Rattle.lp_top.specs.Reading.{count_more}
 use Rattle.lp_top.specs.Words.{CommandFiles, IsCommand, clashes, command_of, input_files, inputs_in}
 use Rattle.lp_top.proofs.WordsLaws.{command-again}
-use Rattle.lp_top.specs.Ran.{BySaid, SaysLine, ByFiles, ByCause, ByCounts, ByMissed, OnlySay, IsKept, SaysCounts, SaysCalls, IsSteady, IsDone, Completes, Refuses, IsRefusal, NoFileFault, Texts, ByWords, Stores, HoldsTold, HoldsHeadline}
+use Rattle.lp_top.specs.Ran.{BySaid, SaysLine, ByFiles, HoldsPart, LeftOff, ByCause, ByCounts, ByMissed, OnlySay, IsKept, SaysCounts, SaysCalls, IsSteady, IsDone, Completes, Refuses, IsRefusal, NoFileFault, Texts, ByWords, Stores, HoldsTold, HoldsHeadline}
 use Rattle.lp_top.specs.Inserting.{IsNoUsage}
 use Rattle.lp_top.specs.Outcomes.{line_of}
 
@@ -82,15 +82,33 @@ said-join old between new before after o (ReadFault n) a k h = says-line (line_o
 said-join old between new before after o (WriteFault n) a k h = says-line (line_of (WriteFault n)) before after old between new (same-say old between (WriteFault n) (subst (ByCause old between) (sym k) a) (λ e. let no : ⊥ = cc in no)) h
 said-join old between new before after o NoMemory a k h = h
 
+-- what holds of an outcome, and of want of memory, holds after its line was said
+pub kept : (P : Outcome → Type 0) (o r : Outcome) → IsKept o r → P o → P NoMemory → P r
+kept P o Done k a n = subst P (sym k) a
+kept P o (Refused f) k a n = subst P (sym k) a
+kept P o (TooLong m) k a n = subst P (sym k) a
+kept P o (Usage u) k a n = subst P (sym k) a
+kept P o (ReadFault m) k a n = subst P (sym k) a
+kept P o (WriteFault m) k a n = subst P (sym k) a
+kept P o NoMemory k a n = n
+
+-- what a text that is whole leaves is a part of it
+holds-whole : (old new : Option Files) (name text : Name) → new ≡ with_file old name text → HoldsPart old new name text
+holds-whole old new name text e = inr (length text, e ∙ ap (with_file old name) (sym (take-length text)))
+
+-- what the files are where memory is wanted for the line
+left-off : (c : CommandFiles) (old new : Option Files) (o : Outcome) → ByFiles c old new o → LeftOff c old new
+left-off c old new Done a = inr (inr (record { texts = a.texts; part = holds-whole (with_file old c.out a.texts.netlist) new c.report a.texts.report a.stored }))
+left-off c old new (Refused f) a = inl a.kept
+left-off c old new (TooLong n) a = inl a.0
+left-off c old new (Usage u) a = inl a
+left-off c old new (ReadFault n) a = inl a
+left-off c old new (WriteFault n) a = elim a [ inl h ↦ inr (inl h.1) | inr h ↦ inr (inr h.1) ]
+left-off c old new NoMemory a = a
+
 -- what the files are after the line was said
 pub files-join : (c : CommandFiles) (old new : Option Files) (o r : Outcome) → ByFiles c old new o → IsKept o r → ByFiles c old new r
-files-join c old new o Done a k = subst (ByFiles c old new) (sym k) a
-files-join c old new o (Refused f) a k = subst (ByFiles c old new) (sym k) a
-files-join c old new o (TooLong n) a k = subst (ByFiles c old new) (sym k) a
-files-join c old new o (Usage u) a k = subst (ByFiles c old new) (sym k) a
-files-join c old new o (ReadFault n) a k = subst (ByFiles c old new) (sym k) a
-files-join c old new o (WriteFault n) a k = subst (ByFiles c old new) (sym k) a
-files-join c old new o NoMemory a k = tt
+files-join c old new o r a k = kept (ByFiles c old new) o r k a (left-off c old new o a)
 
 -- one call more, which says the line
 count-said : (n : ℕ) (old between new : Option ℕ) → between ≡ option_map (count_more (0 + n)) old → new ≡ option_map count_up between → new ≡ option_map (count_more (1 + n)) old
@@ -132,7 +150,7 @@ no_rise n h r = let up : count_up n ≤ n = r.0 in omega arith
 completes-told : (c : CommandFiles) (files : Files) (new : Option Files) (before after : Faults) (r : Outcome)
     → ByFiles c (Some files) new r → ByCounts before after r → IsSteady before after → ((line : List ℕ) → FirstFault (inputs_in files c) line → ⊥) → IsNoUsage r → IsDone r
 completes-told c files new before after Done f k s none n = tt
-completes-told c files new before after (Refused line) f k s none n = none line f.1
+completes-told c files new before after (Refused line) f k s none n = none line f.first
 completes-told c files new before after (TooLong m) f k s none n = no_rise before.long s.long (subst (λ x. Rises before.long x.long) s.same k.long)
 completes-told c files new before after (Usage x) f k s none n = n
 completes-told c files new before after (ReadFault m) f k s none n = no_rise before.read s.read (subst (λ x. Rises before.read x.read) s.same k.read)
@@ -148,16 +166,6 @@ completes c (Some files) new before after r f k n = λ s none. completes-told c 
 pub says-part : {T : Type 0} (r : Result T ShelfFault) (bytes : List ℕ) (old new : Option (List ℕ)) → SayHolds r bytes old new → (n : ℕ) × (new ≡ with_said old (take n bytes))
 says-part (Ok v) bytes old new h = (length bytes, h ∙ ap (with_said old) (sym (take-length bytes)))
 says-part (Err e) bytes old new h = h
-
--- what holds of an outcome, and of want of memory, holds after its line was said
-pub kept : (P : Outcome → Type 0) (o r : Outcome) → IsKept o r → P o → P NoMemory → P r
-kept P o Done k a n = subst P (sym k) a
-kept P o (Refused f) k a n = subst P (sym k) a
-kept P o (TooLong m) k a n = subst P (sym k) a
-kept P o (Usage u) k a n = subst P (sym k) a
-kept P o (ReadFault m) k a n = subst P (sym k) a
-kept P o (WriteFault m) k a n = subst P (sym k) a
-kept P o NoMemory k a n = n
 
 -- the words of an outcome that they do not decide
 pub words-good : (words : List Name) (c : CommandFiles) → IsCommand words c → clashes c ≡ false → (o : Outcome) → IsNoUsage o → ByWords words o
@@ -220,7 +228,7 @@ module _ (one_fault : (inputs : Inputs) (a b : List ℕ) → FirstFault inputs a
   refuses-told : (c : CommandFiles) (files : Files) (new : Option Files) (before after : Faults) (r : Outcome)
       → ByFiles c (Some files) new r → ByCounts before after r → IsNoUsage r → NoFileFault before after → (line : List ℕ) → FirstFault (inputs_in files c) line → IsRefusal line r
   refuses-told c files new before after Done f k n s line x = written_fault c files f.texts line x
-  refuses-told c files new before after (Refused l) f k n s line x = one_fault (inputs_in files c) l line f.1 x
+  refuses-told c files new before after (Refused l) f k n s line x = one_fault (inputs_in files c) l line f.first x
   refuses-told c files new before after (TooLong m) f k n s line x = no_rise before.long s.long_low (subst (Rises before.long) s.long k.long)
   refuses-told c files new before after (Usage u) f k n s line x = n
   refuses-told c files new before after (ReadFault m) f k n s line x = no_rise before.read s.read_low (subst (Rises before.read) s.read k.read)

@@ -32,7 +32,7 @@ end_of stop = ends_by stop.cause stop.place
 abbrev pub StoresBoth : CommandFiles → Name → Name → Option Files → Option Files → Outcome → Type 0
 StoresBoth c netlist report old new Done = new ≡ with_file (with_file old c.out netlist) c.report report
 StoresBoth c netlist report old new (WriteFault k) = ((k ≡ 3) × HoldsPart old new c.out netlist) ⊎ ((k ≡ 4) × HoldsPart (with_file old c.out netlist) new c.report report)
-StoresBoth c netlist report old new NoMemory = Unit {0}
+StoresBoth c netlist report old new NoMemory = HoldsPart old new c.out netlist ⊎ HoldsPart (with_file old c.out netlist) new c.report report
 StoresBoth c netlist report old new _ = ⊥
 
 -- which write failed, after how many calls

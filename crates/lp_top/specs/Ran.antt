@@ -1,6 +1,7 @@
 -- When each outcome of a run comes, and what stands after it (own rule).
 use Rattle.std.specs.Prelude.{◌≡◌, ℕ, ◌+◌, ◌≤◌, ◌<◌, ◌⊎◌, false, List, [], length, take, IsTrue, Option, Some, None, nat_le, slice_index_or, if◌then◌else◌}
 use Rattle.std.specs.Option.{option_map, IfSome}
+use Rattle.std.specs.List.{AllByRecursion}
 use Rattle.lp_text.specs.Shelf.{Files, Faults, LAST, count_up, Rises, content, with_file, with_said, ReadRises, WriteRises, LongRises}
 use Rattle.lp_plain_upf.specs.Names.{Name}
 use Rattle.lp_spec_insertion.specs.Faults.{FirstFault}
@@ -9,7 +10,7 @@ use Rattle.lp_top.specs.declared.outcome.UsageFault.TheVariants.{Form, Files as 
 use Rattle.lp_top.specs.declared.outcome.Outcome.{Outcome}
 use Rattle.lp_top.specs.declared.outcome.Outcome.TheVariants.{Done, Refused, TooLong, Usage, ReadFault, WriteFault, NoMemory}
 use Rattle.lp_top.specs.Words.{CommandFiles, IsCommand, clashes, input_files, inputs_in}
-use Rattle.lp_top.specs.Reading.{IsLong, count_more}
+use Rattle.lp_top.specs.Reading.{IsShort, IsLong, count_more}
 use Rattle.lp_top.specs.Outcomes.{line_of}
 
 -- the number of the input file at a place in the order of reading: 1 the netlist, 2 the intent, 9 + k the k-th library from 1
@@ -23,8 +24,17 @@ ByWords words (Usage Clash) = (c : CommandFiles) × (IsCommand words c × IsTrue
 ByWords words NoMemory = Unit {0}
 ByWords words _ = (c : CommandFiles) × (IsCommand words c × (clashes c ≡ false))
 
+-- what holds of the command that the words are, where its files do not clash
+abbrev pub OfCommand : List Name → (CommandFiles → Type 0) → Type 0
+OfCommand words P = (c : CommandFiles) → IsCommand words c → clashes c ≡ false → P c
+
+-- every input file of the command is within the limit, where the shelf tells its files
+abbrev pub InputsRead : CommandFiles → Option Files → Type 0
+InputsRead c held = IfSome held (λ files. AllByRecursion (IsShort files) (input_files c))
+
 -- the texts that are written for a command, and their promises where the shelf tells its files
 pub record Texts (held : Option Files) (c : CommandFiles) : Type 0 where
+  pub read : InputsRead c held
   pub netlist : List ℕ
   pub report : List ℕ
   pub written : IfSome held (λ files. IsWritten (inputs_in files c) 0 netlist report)
@@ -47,8 +57,18 @@ pub record StopsAtReport (c : CommandFiles) (old new : Option Files) : Type 0 wh
   pub texts : Texts old c
   pub part : HoldsPart (with_file old c.out texts.netlist) new c.report texts.report
 
+-- nothing was written, and the fault is the first one of inputs that were all read
+pub record StopsAtFault (c : CommandFiles) (old new : Option Files) (line : List ℕ) : Type 0 where
+  pub kept : new ≡ old
+  pub read : InputsRead c old
+  pub first : IfSome old (λ files. FirstFault (inputs_in files c) line)
+
 abbrev pub Stopped : ℕ → CommandFiles → Option Files → Option Files → Type 0
 Stopped k c old new = ((k ≡ 3) × StopsAtNetlist c old new) ⊎ ((k ≡ 4) × StopsAtReport c old new)
+
+-- want of memory: no file changed, or the netlist stopped, or after a whole netlist the report did
+abbrev pub LeftOff : CommandFiles → Option Files → Option Files → Type 0
+LeftOff c old new = (new ≡ old) ⊎ (StopsAtNetlist c old new ⊎ StopsAtReport c old new)
 
 -- the input file of this number is the first above the limit
 abbrev pub IsTooLong : ℕ → CommandFiles → Option Files → Type 0
@@ -57,12 +77,12 @@ IsTooLong k c held = (place : ℕ) × ((place < length (input_files c)) × ((k �
 -- what the files decide, and what they are afterwards
 abbrev pub ByFiles : CommandFiles → Option Files → Option Files → Outcome → Type 0
 ByFiles c old new Done = Stores c old new
-ByFiles c old new (Refused line) = (new ≡ old) × IfSome old (λ files. FirstFault (inputs_in files c) line)
+ByFiles c old new (Refused line) = StopsAtFault c old new line
 ByFiles c old new (TooLong k) = (new ≡ old) × IsTooLong k c old
 ByFiles c old new (Usage u) = new ≡ old
 ByFiles c old new (ReadFault k) = new ≡ old
 ByFiles c old new (WriteFault k) = Stopped k c old new
-ByFiles c old new NoMemory = Unit {0}
+ByFiles c old new NoMemory = LeftOff c old new
 
 -- before its line is said, an outcome changes no count but that of its cause
 abbrev pub ByCause : Faults → Faults → Outcome → Type 0
@@ -153,6 +173,10 @@ SaysCalls _ old new = new ≡ option_map count_up old
 abbrev pub KeepsOnUsage : Option Files → Option Files → Outcome → Type 0
 KeepsOnUsage old new (Usage u) = new ≡ old
 KeepsOnUsage old new _ = Unit {0}
+
+-- words that are no command, or whose files clash, change no file
+abbrev pub KeepsFiles : List Name → Option Files → Option Files → Type 0
+KeepsFiles words old new = OfCommand words (λ c. ⊥) → new ≡ old
 
 -- on Done the bytes under the name of the netlist keep the promise of the theorem
 abbrev pub HoldsTold : CommandFiles → Option Files → Option Files → Type 0

@@ -30,7 +30,7 @@ use std::alloc::Global;
 use std::marker::Model;
 
 /// A fault of the inputs, seen as the bytes of its line without the line feed.
-#[derive(Debug, Drop)]
+#[derive(Drop)]
 pub struct Fault {
     line: Bytes,
 }
@@ -59,7 +59,7 @@ impl Fault {
 }
 
 /// Why a call that takes memory gave nothing.
-#[derive(Debug, Drop)]
+#[derive(Drop)]
 pub enum Refusal {
     /// The first fault of the inputs.
     Fault(Fault),
@@ -78,7 +78,7 @@ impl From<NoMemory> for Refusal {
 }
 
 /// The texts of a finished insertion.
-#[derive(Debug, Drop)]
+#[derive(Drop)]
 pub struct Written {
     /// The netlist with its supplies.
     pub netlist: Bytes,

@@ -4,7 +4,7 @@ ghost use Rattle.lp_top.specs.Outcomes.{status_of};
 use crate::design::Fault;
 
 /// What is wrong with the words of a command.
-#[derive(Clone, Copy, Debug, PartialEq, Eq)]
+#[derive(Clone, Copy)]
 pub enum UsageFault {
     /// They are no command.
     Form,
@@ -14,7 +14,7 @@ pub enum UsageFault {
 
 /// How a run ended. A number is a file's: 0 standard output, 1 netlist, 2 UPF, 3 netlist out,
 /// 4 report, 9 + k the k-th library from 1.
-#[derive(Debug, Drop)]
+#[derive(Drop)]
 pub enum Outcome {
     /// All input was read and all output written.
     Done,

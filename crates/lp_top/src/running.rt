@@ -1,8 +1,7 @@
-ghost use Rattle.std.specs.Prelude.{◌≡◌, ◌++◌, codes, decimal, IfOk, OnOk, false};
+ghost use Rattle.std.specs.Prelude.{◌≡◌, ◌++◌, codes, decimal, IfOk, OnOk};
 ghost use Rattle.lp_text.specs.Shelf.{Rises};
 ghost use Rattle.lp_top.specs.Outcomes.{line_of};
-ghost use Rattle.lp_top.specs.Ran.{BySaid, IsKept, OnlySay, SaysCounts, SaysCalls, SaysPart, wants_memory, ByWords, ByFiles, ByCounts, ByMissed, KeepsOnUsage, Completes, Refuses, HoldsHeadline};
-ghost use Rattle.lp_top.specs.Words.{CommandFiles, IsCommand, clashes};
+ghost use Rattle.lp_top.specs.Ran.{BySaid, IsKept, OnlySay, SaysCounts, SaysCalls, SaysPart, wants_memory, ByWords, ByFiles, ByCounts, ByMissed, KeepsOnUsage, KeepsFiles, OfCommand, Completes, Refuses, HoldsHeadline};
 
 use crate::inserting::attempt;
 use crate::outcome::{Outcome, UsageFault};
@@ -86,22 +85,23 @@ pub fn run<S: Shelf>(alloc: Global, words: &[Word], shelf: &mut S) -> Outcome
     // The words alone decide whether the outcome is a usage.
     ensures words { ByWords words.now result }
     ensures usage { KeepsOnUsage (S.held shelf.old) (S.held shelf.new) result }
+    ensures unread { KeepsFiles words.now (S.held shelf.old) (S.held shelf.new) }
 
     // What was written, and each outcome's cause in the files.
-    ensures files { (c : CommandFiles) → IsCommand words.now c → clashes c ≡ false → ByFiles c (S.held shelf.old) (S.held shelf.new) result }
+    ensures files { OfCommand words.now (λ c. ByFiles c (S.held shelf.old) (S.held shelf.new) result) }
     ensures counts { ByCounts (S.faults shelf.old) (S.faults shelf.new) result }
-    ensures misses { (c : CommandFiles) → IsCommand words.now c → clashes c ≡ false → ByMissed 1 c (S.missed shelf.old) (S.missed shelf.new) (S.calls shelf.old) (S.calls shelf.new) result }
+    ensures misses { OfCommand words.now (λ c. ByMissed 1 c (S.missed shelf.old) (S.missed shelf.new) (S.calls shelf.old) (S.calls shelf.new) result) }
 
     // What was said.
     ensures said { BySaid (S.said shelf.old) (S.said shelf.new) (S.faults shelf.old) (S.faults shelf.new) result }
 
     // Where no file call failed, inputs with a first fault are refused by it, memory aside.
-    ensures exact { (c : CommandFiles) → IsCommand words.now c → clashes c ≡ false → Refuses c (S.held shelf.old) (S.faults shelf.old) (S.faults shelf.new) result }
+    ensures exact { OfCommand words.now (λ c. Refuses c (S.held shelf.old) (S.faults shelf.old) (S.faults shelf.new) result) }
     // Without a fault of the files or of the inputs the run is done, or wants memory.
-    ensures complete { (c : CommandFiles) → IsCommand words.now c → clashes c ≡ false → Completes c (S.held shelf.old) (S.faults shelf.old) (S.faults shelf.new) result }
+    ensures complete { OfCommand words.now (λ c. Completes c (S.held shelf.old) (S.faults shelf.old) (S.faults shelf.new) result) }
 
     // The theorem, on the bytes that are held under the name of the netlist.
-    ensures headline { (c : CommandFiles) → IsCommand words.now c → clashes c ≡ false → HoldsHeadline c (S.held shelf.old) (S.held shelf.new) result }
+    ensures headline { OfCommand words.now (λ c. HoldsHeadline c (S.held shelf.old) (S.held shelf.new) result) }
 {
     one_fault();
     no_fault();

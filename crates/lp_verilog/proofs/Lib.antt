@@ -23,3 +23,4 @@ pub mod Phases
 pub mod Phased
 pub mod Numbers
 pub mod Standing
+mod Computed

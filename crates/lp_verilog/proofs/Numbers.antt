@@ -33,7 +33,7 @@ use Rattle.lp_verilog_draft.specs.declared.draft.Draft.{Draft}
 use Rattle.lp_verilog_draft.specs.declared.draft.Joint.{Joint}
 use Rattle.lp_verilog_draft.specs.Verdicts.{Verdict, Goes, Stops, and_then}
 use Rattle.lp_verilog_draft.specs.Scopes as scopes
-use Rattle.lp_verilog_draft.specs.Scopes.{Entries, found, lacking_of, ports_of, nets_of, port_of, port_with, net_of, net_with, with_some, add_new, declare, declare_by, use_name, use_by, use_old, use_new, use_instance, agrees, is_port, range_in, put, listed, headed, wire, instance_entry}
+use Rattle.lp_verilog_draft.specs.Scopes.{Entries, found, lacking_of, ports_of, nets_of, port_of, port_with, net_of, net_with, with_some, add_new, declare, declare_by, use_name, use_by, use_old, use_new, use_instance, use_net, agrees, is_port, range_in, put, listed, headed, wire, instance_entry}
 use Rattle.lp_verilog_draft.specs.Steps
 use Rattle.lp_verilog_draft.specs.Values.{is_in, goes_along, between, indices, select, whole, digit, constant_bits}
 use Rattle.lp_verilog_grammar.specs.declared.symbol.Symbol.{Symbol}
@@ -133,6 +133,15 @@ module _ (P : ℕ → Bool) where
       by true = g
       by false = insert_keys id.0 new es h g
 
+  net_keyed : (side : Side) (es : Entries) (id : NameId) (e : Entry) → P id.0 ≡ true → Keyed es → Held Keyed (use_net side es id e)
+  net_keyed sides.Right es id e h g = by e.fixed
+    where
+      by : (b : Bool) → Held Keyed (if b then Goes es else Stops offs.Syntax)
+      by true = g
+      by false = tt
+  net_keyed sides.Left es id e h g = settle_keyed es id e h g
+  net_keyed sides.Connection es id e h g = settle_keyed es id e h g
+
   use_keyed : (side : Side) (at : ℕ) (es : Entries) (id : NameId) (o : Option Entry) → P id.0 ≡ true → Keyed es → Held Keyed (use_by side at es id o)
   use_keyed sides.Right at es id None h g = tt
   use_keyed sides.Left at es id None h g = insert_keys id.0 (wire None at) es h g
@@ -146,8 +155,8 @@ module _ (P : ℕ → Bool) where
 
       by : (k : Kind) → Held Keyed (use_old k side es id e)
       by kinds.Instance = refused side
-      by kinds.Port = settle_keyed es id e h g
-      by kinds.Wire = settle_keyed es id e h g
+      by kinds.Port = net_keyed side es id e h g
+      by kinds.Wire = net_keyed side es id e h g
 
   ports_all : (es : Entries) → keys es ≡ true → all (flat_map port_numbers (ports_of es)) ≡ true
   ports_all [] h = refl

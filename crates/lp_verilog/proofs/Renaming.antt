@@ -38,7 +38,7 @@ use Rattle.lp_verilog_draft.specs.declared.draft.Joint.{Joint}
 use Rattle.lp_verilog_draft.specs.declared.draft.Draft.{Draft}
 use Rattle.lp_verilog_grammar.specs.declared.reader.Reader.{Reader}
 use Rattle.lp_verilog_draft.specs.Verdicts.{Verdict, Goes, Stops}
-use Rattle.lp_verilog_draft.specs.Scopes.{Entries, lacking_of, ports_of, nets_of, port_of, net_of, port_with, net_with, with_some, lacks_direction, put, found, add_new, headed, wire, is_port, agrees, give_direction, give_wire, declare_by, use_new, use_instance, settle, use_old, use_by, use_name, entry_range, range_in}
+use Rattle.lp_verilog_draft.specs.Scopes.{Entries, lacking_of, ports_of, nets_of, port_of, net_of, port_with, net_with, with_some, lacks_direction, put, found, add_new, headed, wire, is_port, agrees, give_direction, give_wire, declare_by, use_new, use_instance, use_net, settle, use_old, use_by, use_name, entry_range, range_in}
 use Rattle.lp_verilog_draft.specs.Values.{is_in, goes_along, between, indices, select, whole, digit, constant_bits}
 use Rattle.lp_verilog_draft.specs.Steps
 
@@ -274,10 +274,19 @@ module _ (ρ : ℕ → ℕ) (inj : (i j : ℕ) → ρ i ≡ ρ j → i ≡ j) wh
       by true = refl
       by false = put_same s n new
 
+  net_step : (side : Side) (s : Entries) (n : NameId) (e : Entry) → use_net side (es ρ s) (nm ρ n) e ≡ vd ρ (es ρ) (use_net side s n e)
+  net_step sides.Right s n e = by e.fixed
+    where
+      by : (b : Bool) → (if b then Goes (es ρ s) else Stops offs.Syntax) ≡ vd ρ (es ρ) (if b then Goes s else Stops offs.Syntax)
+      by true = refl
+      by false = refl
+  net_step sides.Left s n e = ap Goes (settle_same s n e)
+  net_step sides.Connection s n e = ap Goes (settle_same s n e)
+
   old_step : (k : Kind) (side : Side) (s : Entries) (n : NameId) (e : Entry) → use_old k side (es ρ s) (nm ρ n) e ≡ vd ρ (es ρ) (use_old k side s n e)
   old_step kinds.Instance side s n e = instance_step side n
-  old_step kinds.Port side s n e = ap Goes (settle_same s n e)
-  old_step kinds.Wire side s n e = ap Goes (settle_same s n e)
+  old_step kinds.Port side s n e = net_step side s n e
+  old_step kinds.Wire side s n e = net_step side s n e
 
   use_step : (side : Side) (at : ℕ) (s : Entries) (n : NameId) (o : Option Entry) → use_by side at (es ρ s) (nm ρ n) o ≡ vd ρ (es ρ) (use_by side at s n o)
   use_step side at s n None = new_step side at s n

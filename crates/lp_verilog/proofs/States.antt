@@ -29,7 +29,7 @@ use Rattle.lp_verilog_draft.specs.declared.declaring.Declaring.{Declaring}
 use Rattle.lp_verilog_draft.specs.declared.stop.Off.TheVariants as offs
 use Rattle.lp_verilog_draft.specs.Verdicts.{Verdict, Goes, Stops, and_then}
 use Rattle.lp_verilog_draft.specs.Scopes as scopes
-use Rattle.lp_verilog_draft.specs.Scopes.{Entries, found, lacking_of, add_new, declare, declare_by, use_name, use_by, use_old, use_new, use_instance, agrees, is_port, entry_range, range_in, put, listed, headed, wire, instance_entry, lacks_direction}
+use Rattle.lp_verilog_draft.specs.Scopes.{Entries, found, lacking_of, add_new, declare, declare_by, use_name, use_by, use_old, use_new, use_instance, use_net, agrees, is_port, entry_range, range_in, put, listed, headed, wire, instance_entry, lacks_direction}
 use Rattle.lp_verilog_draft.specs.Steps
 use Rattle.lp_verilog_draft.specs.Values.{is_in, goes_along, select}
 use Rattle.lp_verilog_grammar.specs.declared.reader.Reader.{Reader}
@@ -169,10 +169,19 @@ module _ (n : ℕ) (id : NameId) (under : nat_lt id.0 n ≡ true) where
       by true = g
       by false = put_good n id.0 new es under h g
 
+  net_held : (side : Side) (es : Entries) (e : Entry) → Good n es → small e.range ≡ true → Held (Good n) (use_net side es id e)
+  net_held sides.Right es e g h = by e.fixed
+    where
+      by : (b : Bool) → Held (Good n) (if b then Goes es else Stops offs.Syntax)
+      by true = g
+      by false = tt
+  net_held sides.Left es e g h = settle_good es e g h
+  net_held sides.Connection es e g h = settle_good es e g h
+
   old_held : (k : Kind) (side : Side) (es : Entries) (e : Entry) → Good n es → small e.range ≡ true → Held (Good n) (use_old k side es id e)
   old_held kinds.Instance side es e g h = instance_held side
-  old_held kinds.Port side es e g h = settle_good es e g h
-  old_held kinds.Wire side es e g h = settle_good es e g h
+  old_held kinds.Port side es e g h = net_held side es e g h
+  old_held kinds.Wire side es e g h = net_held side es e g h
 
   new_held : (side : Side) (at : ℕ) (es : Entries) → Good n es → Held (Good n) (use_new side at es id)
   new_held sides.Right at es g = tt

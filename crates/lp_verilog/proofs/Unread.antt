@@ -32,7 +32,7 @@ use Rattle.lp_verilog_draft.specs.declared.declaring.Form.TheVariants as forms
 use Rattle.lp_verilog_draft.specs.declared.declaring.Declaring.{Declaring}
 use Rattle.lp_verilog_draft.specs.Verdicts.{Verdict, Goes, Stops, and_then}
 use Rattle.lp_verilog_draft.specs.Scopes as scopes
-use Rattle.lp_verilog_draft.specs.Scopes.{Entries, found, lacking_of, add_new, declare, declare_by, use_name, use_by, use_old, use_new, use_instance, agrees, is_port, put, listed, headed, instance_entry}
+use Rattle.lp_verilog_draft.specs.Scopes.{Entries, found, lacking_of, add_new, declare, declare_by, use_name, use_by, use_old, use_new, use_instance, use_net, agrees, is_port, put, listed, headed, instance_entry}
 use Rattle.lp_verilog_draft.specs.Steps
 use Rattle.lp_verilog_draft.specs.Values.{is_in, goes_along, select}
 use Rattle.lp_verilog_grammar.specs.declared.symbol.Symbol.{Symbol}
@@ -84,12 +84,21 @@ declare_supported forms.Header d at es id = add_supported es id (headed d at) (f
 declare_supported forms.Ports d at es id = direction_supported d es id (found es id)
 declare_supported forms.Wires d at es id = wire_supported d at es id (found es id)
 
+net_supported : (side : Side) (es : Entries) (id : NameId) (e : Entry) → supported (use_net side es id e) ≡ true
+net_supported sides.Right es id e = by e.fixed
+  where
+    by : (b : Bool) → supported (if b then Goes es else Stops offs.Syntax) ≡ true
+    by true = refl
+    by false = refl
+net_supported sides.Left es id e = refl
+net_supported sides.Connection es id e = refl
+
 old_supported : (k : Kind) (side : Side) (es : Entries) (id : NameId) (e : Entry) → supported (use_old k side es id e) ≡ true
 old_supported kinds.Instance sides.Right es id e = refl
 old_supported kinds.Instance sides.Left es id e = refl
 old_supported kinds.Instance sides.Connection es id e = refl
-old_supported kinds.Port side es id e = refl
-old_supported kinds.Wire side es id e = refl
+old_supported kinds.Port side es id e = net_supported side es id e
+old_supported kinds.Wire side es id e = net_supported side es id e
 
 use_supported : (side : Side) (at : ℕ) (es : Entries) (id : NameId) (o : Option Entry) → supported (use_by side at es id o) ≡ true
 use_supported sides.Right at es id None = refl

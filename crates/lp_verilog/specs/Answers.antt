@@ -1,11 +1,12 @@
 -- What the functions that read answer, next to the reading by the grammar.
-use Rattle.std.specs.Prelude.{◌≡◌, ◌<◌, ℕ, List, Result, Ok, Err, IsTrue}
+use Rattle.std.specs.Prelude.{◌≡◌, ◌<◌, ℕ, List, Some, Result, Ok, Err, IsTrue}
 use Rattle.std.specs.List.{list_all}
 use Rattle.lp_model.specs.declared.netlist.Module.{Module}
 use Rattle.lp_verilog_grammar.specs.declared.reader.Reader.{Reader}
 use Rattle.lp_verilog.specs.declared.reading.Halt.{Halt}
 use Rattle.lp_verilog.specs.declared.reading.Halt.TheVariants as halts
-use Rattle.lp_verilog.specs.Reading.{Reading, Outcome, Whole, Left}
+use Rattle.lp_verilog.specs.Reading.{Reading, Outcome, Whole, Left, turned}
+use Rattle.lp_verilog_tokens.specs.Cutting.{Piece}
 use Rattle.lp_verilog_tokens.specs.Lexical.{is_visible}
 use Rattle.lp_verilog_draft.specs.declared.stop.Off.{Off}
 use Rattle.lp_verilog_draft.specs.declared.stop.Off.TheVariants as offs
@@ -30,6 +31,11 @@ Halts halts.NoMemory names reading = Unit {0}
 abbrev pub GoesOn : {A : Type 0} → (A → List ℕ) → (List ℕ → List (List ℕ) → Reader → Reading) → Result A Halt → List (List ℕ) → Reader → Reading → Type 0
 GoesOn seen more (Ok rest) names m reading = reading ≡ more (seen rest) names m
 GoesOn seen more (Err halt) names m reading = Halts halt names reading
+
+-- behind its first token a text is read as what is left, whatever is done with that
+abbrev pub Turns : {A : Type 0} → (A → List ℕ) → Result A Halt → List (List ℕ) → Reader → ℕ → List ℕ → List (List ℕ) → Reader → Piece → Type 0
+Turns seen result names m size rest old before p =
+    (more : List ℕ → List (List ℕ) → Reader → Reading) → GoesOn seen more result names m (turned more size rest old before (Some p))
 
 abbrev pub Finishes : Result (List Module) Halt → Outcome → Type 0
 Finishes (Ok modules) o = o ≡ Whole modules

@@ -4,3 +4,4 @@ pub mod Denotes
 pub mod Reads
 pub mod Places
 pub mod Refusing
+pub mod Laws

@@ -16,7 +16,7 @@ use Rattle.lp_verilog_grammar.specs.declared.symbol.Symbol.TheVariants as symbol
 use Rattle.lp_verilog_grammar.specs.declared.reader.Reader.{Reader}
 use Rattle.lp_verilog_draft.specs.Verdicts.{Goes}
 use Rattle.lp_verilog_grammar.specs.Machine.{start, step}
-use Rattle.lp_verilog.specs.Reading.{behind}
+use Rattle.lp_verilog.specs.Reading.{behind, most_names}
 use Rattle.lp_verilog.specs.Denotes.{numbered, is_known}
 use Rattle.lp_verilog.specs.Reads.{Reads}
 
@@ -94,7 +94,7 @@ module _ (names : List (List ℕ)) (size : ℕ) where
 pub record IsStuck (text : List ℕ) (tokens : List Piece) : Type 0 where
   pub names : List (List ℕ)
   pub apart : distinct names ≡ true
-  pub few : length names ≤ 4294967295
+  pub few : length names ≤ most_names
   pub last : Reader
   pub leads : LeadsFrom names (length text) tokens true text start last
   pub stuck : is_stuck last ≡ true

@@ -1,5 +1,6 @@
 -- What the reader of netlists answers.
 use Rattle.std.specs.Prelude.{◌≡◌, ◌<◌, ◌≤◌, ◌⊎◌, ℕ, true, List, length, unwrap_or}
+use Rattle.lp_text.specs.declared.shelf.TheConstants.{LIMIT}
 use Rattle.lp_text.specs.Texts.{place_of, has_text}
 use Rattle.lp_text.specs.Places.{place_in}
 use Rattle.lp_model.specs.declared.fault.netlist.NetlistFault.{NetlistFault}
@@ -52,10 +53,10 @@ HasWord (refusals.Fault fault) word names = has_text word names ≡ true
 abbrev pub Refuses : List (List ℕ) → List ℕ → Refusal → Type 0
 Refuses names text refusals.NoMemory = Unit {0}
 Refuses names text (refusals.Fault fault) =
-    ((67108864 < length text) × (refusals.Fault fault ≡ too_long))
-    ⊎ ((length text ≤ 67108864) × StopsAt names text (refusals.Fault fault))
+    ((LIMIT < length text) × (refusals.Fault fault ≡ too_long))
+    ⊎ ((length text ≤ LIMIT) × StopsAt names text (refusals.Fault fault))
 
 -- a text that is not too long and is refused denotes no netlist
 abbrev pub HasNone : List ℕ → Refusal → Type 0
 HasNone text refusals.NoMemory = Unit {0}
-HasNone text (refusals.Fault fault) = length text ≤ 67108864 → (view : List ModuleView) → Reads text view → ⊥
+HasNone text (refusals.Fault fault) = length text ≤ LIMIT → (view : List ModuleView) → Reads text view → ⊥

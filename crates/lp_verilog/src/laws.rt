@@ -1,19 +1,15 @@
 //! Laws about the definitions alone: each is the clause of a function that does nothing.
-ghost use Rattle.std.specs.Prelude.{◌≡◌, ◌≤◌, ℕ, List, true, length, map, ◌++◌};
-ghost use Rattle.std.specs.List.{flat_map};
-ghost use Rattle.lp_text.specs.Texts.{distinct, Grown};
+ghost use Rattle.std.specs.Prelude.{◌≡◌, ℕ, List, true, ◌++◌};
+ghost use Rattle.lp_text.specs.Texts.{Grown};
 ghost use Rattle.lp_model.specs.declared.fault.refusal.Fault.{Fault};
-ghost use Rattle.lp_model.specs.declared.fault.refusal.Refusal.TheVariants as refusals;
 ghost use Rattle.lp_model.specs.declared.netlist.Module.{Module};
-ghost use Rattle.lp_model.specs.Agreement.{numbers_below};
-ghost use Rattle.lp_model.specs.FaultLines.{fault_line};
-ghost use Rattle.lp_model.specs.NetlistView.{ModuleView, module_numbers, module_view};
+ghost use Rattle.lp_model.specs.NetlistView.{ModuleView};
 ghost use Rattle.lp_verilog_tokens.specs.Cutting.{Piece};
 ghost use Rattle.lp_verilog.specs.Denotes.{Denotes, LeadsTo};
 ghost use Rattle.lp_verilog.specs.Places.{IsNetlist, IsStuck};
 ghost use Rattle.lp_verilog.specs.Reads.{Reads};
 ghost use Rattle.lp_verilog.specs.Reading.{Outcome};
-ghost use Rattle.lp_verilog.specs.Refusing.{Refuses};
+ghost use Rattle.lp_verilog.specs.Laws.{OverTable, SameLine, NotBoth, AreNumbered, SeenAlike};
 
 /// A text denotes at most one netlist, by the texts of its names.
 pub fn one_netlist()
@@ -27,12 +23,12 @@ pub fn one_outcome()
 
 /// The line of the fault of a text is the same over every table of names.
 pub fn one_line()
-    ensures { (a b : List (List ℕ)) (text : List ℕ) (f g : Fault) → distinct a ≡ true → length a ≤ 4294967295 → distinct b ≡ true → length b ≤ 4294967295 → Refuses a text (refusals.Fault f) → Refuses b text (refusals.Fault g) → fault_line a f ≡ fault_line b g }
+    ensures { (a b : List (List ℕ)) (text : List ℕ) (f g : Fault) → OverTable a (OverTable b (SameLine a b text f g)) }
 {}
 
 /// A text that is refused, and is not too long, denotes no netlist.
 pub fn refused_reads_nothing()
-    ensures { (names : List (List ℕ)) (text : List ℕ) (f : Fault) (v : List ModuleView) → distinct names ≡ true → length names ≤ 4294967295 → length text ≤ 67108864 → Refuses names text (refusals.Fault f) → Reads text v → ⊥ }
+    ensures { (names : List (List ℕ)) (text : List ℕ) (f : Fault) (v : List ModuleView) → OverTable names (NotBoth names text f v) }
 {}
 
 /// From tokens that end where a direction is being given that no port of the header can take, no tokens go on to a netlist.
@@ -42,11 +38,11 @@ pub fn stuck_reads_nothing()
 
 /// The numbers in what a text denotes lie below the count of the names.
 pub fn numbers_stand()
-    ensures { (names : List (List ℕ)) (text : List ℕ) (modules : List Module) → distinct names ≡ true → length names ≤ 4294967295 → Denotes names text modules → numbers_below (length names) (flat_map module_numbers modules) ≡ true }
+    ensures { (names : List (List ℕ)) (text : List ℕ) (modules : List Module) → OverTable names (Denotes names text modules → AreNumbered names modules) }
 {}
 
 /// What a text denotes stays the same when the table of its names grows.
 pub fn grown_names_keep_readings()
     ensures denotes { (old new : List (List ℕ)) (text : List ℕ) (modules : List Module) → Grown old new → Denotes old text modules → Denotes new text modules }
-    ensures seen { (old new : List (List ℕ)) (text : List ℕ) (modules : List Module) → Grown old new → distinct new ≡ true → length new ≤ 4294967295 → Denotes old text modules → map (module_view new) modules ≡ map (module_view old) modules }
+    ensures seen { (old new : List (List ℕ)) (text : List ℕ) (modules : List Module) → Grown old new → OverTable new (SeenAlike old new text modules) }
 {}

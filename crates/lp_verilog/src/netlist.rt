@@ -4,6 +4,7 @@ ghost use Rattle.lp_text.specs.Texts.{Grown};
 ghost use Rattle.lp_text.specs.Places.{place_in};
 ghost use Rattle.lp_model.specs.NetlistView.{netlist_view};
 ghost use Rattle.lp_verilog.specs.Denotes.{Denotes};
+ghost use Rattle.lp_verilog.specs.Reading.{most_names};
 ghost use Rattle.lp_verilog.specs.Reads.{Reads};
 ghost use Rattle.lp_verilog_tokens.specs.Lexical.{is_visible};
 ghost use Rattle.lp_verilog_draft.specs.declared.stop.Off.TheVariants as offs;
@@ -20,7 +21,7 @@ use std::alloc::Global;
 
 /// The place of a byte, or of the end.
 fn place(text: &[u8], at: usize) -> Place
-    requires { length text.now ≤ 67108864 }
+    requires { length text.now ≤ LIMIT }
     ensures { result ≡ place_in text.now at }
 {
     Place::of(text, at.min(text.len()))
@@ -28,8 +29,8 @@ fn place(text: &[u8], at: usize) -> Place
 
 /// The refusal for a token that cannot stand where it does.
 fn refusal(names: &mut Names, text: &[u8], off: Off, at: usize, word: &[u8]) -> Refusal
-    requires short { length text.now ≤ 67108864 }
-    requires room { length names.old < 4294967295 }
+    requires short { length text.now ≤ LIMIT }
+    requires room { length names.old < most_names }
     requires seen { off ≡ offs.Unsupported → IsTrue (list_all is_visible word.now) }
     ensures fault { IsFault result (fault_of names.new text.now at word.now off) }
     ensures known { off ≡ offs.Unsupported → HasWord result word.now names.new }
@@ -70,7 +71,7 @@ pub fn read_netlist(alloc: Global, names: &mut Names, bytes: &[u8]) -> Result<Ne
     requires { length names.old ≤ 3000000000 }
     ensures reads { IfOk result (λ n. Reads bytes.now (netlist_view names.new n)) }
     ensures numbers { IfOk result (λ n. Denotes names.new bytes.now n.modules) }
-    ensures short { OnOk result (length bytes.now ≤ 67108864) }
+    ensures short { OnOk result (length bytes.now ≤ LIMIT) }
     ensures err { IfErr result (Refuses names.new bytes.now) }
     ensures none { IfErr result (HasNone bytes.now) }
     ensures grown { Grown names.old names.new }

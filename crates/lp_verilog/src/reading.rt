@@ -1,13 +1,13 @@
-ghost use Rattle.std.specs.Prelude.{◌≡◌, ◌+◌, ◌<◌, ◌≤◌, ℕ, List, Some, true, length, take, drop, IfOk, IsTrue};
+ghost use Rattle.std.specs.Prelude.{◌≡◌, ◌+◌, ◌<◌, ◌≤◌, ℕ, true, length, take, drop, IfOk, IsTrue};
 ghost use Rattle.std.specs.List.{list_all};
+ghost use Rattle.lp_text.specs.declared.shelf.TheConstants.{LIMIT};
 ghost use Rattle.lp_text.specs.Texts.{Grown};
-ghost use Rattle.lp_verilog.specs.Reading.{Reading, read_rest, turned, ending};
+ghost use Rattle.lp_verilog.specs.Reading.{most_names, read_rest, ending};
 ghost use Rattle.lp_verilog_grammar.specs.Machine.{start, step};
-ghost use Rattle.lp_verilog.specs.Answers.{Takes, GoesOn, Finishes, IsReading, Unread, EndsUnread};
+ghost use Rattle.lp_verilog.specs.Answers.{Takes, Turns, Finishes, IsReading, Unread, EndsUnread};
 ghost use Rattle.lp_verilog.specs.Reading.{left_out};
 ghost use Rattle.lp_verilog_tokens.specs.Lexical.{is_visible};
 ghost use Rattle.lp_verilog_tokens.specs.View.{piece_view, lexeme_view};
-ghost use Rattle.lp_verilog_grammar.specs.declared.reader.Reader.{Reader};
 
 use crate::naming::token_of;
 use lp_model::Module;
@@ -86,11 +86,11 @@ fn turn<'a>(
     rest: &'a [u8],
     piece: Piece<'a>,
 ) -> Result<&'a [u8], Halt<'a>>
-    requires room { length names.old < 4294967295 }
+    requires room { length names.old < most_names }
     requires within { length rest.now ≤ size }
     requires gap { piece.gap ≤ length rest.now }
     requires seen { IsTrue (left_out (lexeme_view piece.lexeme)) → IsTrue (list_all is_visible (take piece.size (drop piece.gap rest.now))) }
-    ensures reads { (more : List ℕ → List (List ℕ) → Reader → Reading) → GoesOn (λ r. r.now) more result names.new reader.new (turned more size rest.now names.old reader.old (Some (piece_view piece.entry))) }
+    ensures reads { Turns (λ r. r.now) result names.new reader.new size rest.now names.old reader.old (piece_view piece.entry) }
     ensures left { IfOk result (λ r. length r.now ≤ length rest.now) }
     ensures unread { Unread result names.old names.new }
     ensures grown { Grown names.old names.new }
@@ -123,7 +123,7 @@ pub(crate) fn read_modules<'a>(
     names: &mut Names,
     bytes: &'a [u8],
 ) -> Result<Items<Module>, Halt<'a>>
-    requires short { length bytes.now ≤ 67108864 }
+    requires short { length bytes.now ≤ LIMIT }
     requires room { length names.old ≤ 3000000000 }
     ensures reads { IsReading result names.new (read_rest bytes.now (length bytes.now) true bytes.now names.old start) }
     ensures grown { Grown names.old names.new }

@@ -1,5 +1,5 @@
 -- The nets of a module that is read: what is settled of a name stays so.
-use Rattle.std.proofs.Common.{◌≡◌, ℕ, zero, suc, ◌+◌, ◌-◌, ◌≤◌, Bool, true, false, cond, List, [], ◌∷◌, ◌++◌, map, Option, Some, None, refl, sym, ap, ◌∙◌, arith}
+use Rattle.std.proofs.Common.{◌≡◌, ℕ, zero, suc, ◌+◌, ◌-◌, ◌≤◌, Bool, true, false, cond, List, [], ◌∷◌, ◌++◌, map, Option, Some, None, refl, sym, ap, ◌∙◌, subst, arith}
 use Rattle.std.specs.Prelude.{nat_eq, nat_le, nat_lt, is_none, not, ◌&&◌, ◌||◌, ◌==◌, if◌then◌else◌}
 use Rattle.std.specs.List.{list_all}
 use Rattle.std.specs.Map.{lookup}
@@ -21,7 +21,7 @@ use Rattle.lp_verilog_draft.specs.declared.declaring.Form.TheVariants as forms
 use Rattle.lp_verilog_draft.specs.declared.declaring.Declaring.{Declaring}
 use Rattle.lp_verilog_draft.specs.Verdicts.{Goes, Stops}
 use Rattle.lp_verilog_draft.specs.Scopes as scopes
-use Rattle.lp_verilog_draft.specs.Scopes.{Entries, found, add_new, declare, declare_by, use_name, use_by, use_old, use_instance, agrees, same_range, is_port, entry_range, range_in, put, listed, headed, wire, instance_entry}
+use Rattle.lp_verilog_draft.specs.Scopes.{Entries, found, add_new, declare, declare_by, use_name, use_by, use_old, use_instance, use_net, agrees, same_range, is_port, entry_range, range_in, put, listed, headed, wire, instance_entry}
 use Rattle.lp_verilog_draft.specs.Values.{is_in, between, indices, select, whole, digit, constant_bits}
 use Rattle.lp_verilog.proofs.States.{Held}
 use Rattle.lp_vwrite.specs.WellFormed.{is_scalar, has_index, is_filled}
@@ -260,6 +260,15 @@ settle_used es id e is net = by e.fixed refl
           ap net_range here ∙ fixed_range e.kind e.range net ∙ ap (λ o. Some (entry_range o)) (sym here),
         )
 
+net_used : (side : Side) (es : Entries) (id : NameId) (e : Entry) → found es id ≡ Some e → not (is_instance e.kind) ≡ true → Held (Used es id) (use_net side es id e)
+net_used sides.Right es id e is net = by e.fixed refl
+  where
+    by : (b : Bool) → e.fixed ≡ b → Held (Used es id) (if b then Goes es else Stops offs.Syntax)
+    by true f = subst (Used es id) (ap (λ b. if b then es else put es id (record { kind = e.kind; direction = e.direction; range = e.range; fixed = true; wired = e.wired; at = e.at })) f) (settle_used es id e is net)
+    by false f = tt
+net_used sides.Left es id e is net = settle_used es id e is net
+net_used sides.Connection es id e is net = settle_used es id e is net
+
 pub use_used : (side : Side) (at : ℕ) (es : Entries) (id : NameId) (o : Option Entry) → found es id ≡ o → Held (Used es id) (use_by side at es id o)
 use_used sides.Right at es id None is = tt
 use_used sides.Left at es id None is = use_wire es id at is
@@ -273,8 +282,8 @@ use_used side at es id (Some e) is = by e.kind refl
 
     by : (kind : Kind) → e.kind ≡ kind → Held (Used es id) (use_old kind side es id e)
     by kinds.Instance k = refused side
-    by kinds.Port k = settle_used es id e is (ap (λ x. not (is_instance x)) k)
-    by kinds.Wire k = settle_used es id e is (ap (λ x. not (is_instance x)) k)
+    by kinds.Port k = net_used side es id e is (ap (λ x. not (is_instance x)) k)
+    by kinds.Wire k = net_used side es id e is (ap (λ x. not (is_instance x)) k)
 
 -- ---- the bits of values
 

@@ -23,7 +23,7 @@ use Rattle.lp_verilog_tokens.specs.declared.token.Token.TheVariants as tokens
 use Rattle.lp_verilog_tokens.specs.declared.token.Mark.TheVariants as marks
 use Rattle.lp_verilog_draft.specs.declared.value.Side.{Side}
 use Rattle.lp_verilog_draft.specs.declared.value.Side.TheVariants as sides
-use Rattle.lp_verilog_draft.specs.Scopes.{Entries, found, use_name, use_old, range_in, entry_range}
+use Rattle.lp_verilog_draft.specs.Scopes.{Entries, found, use_name, use_old, use_net, range_in, entry_range}
 use Rattle.lp_verilog_draft.specs.Values.{is_in, between}
 use Rattle.lp_verilog_draft.specs.Steps.{value_subject, value_whole}
 use Rattle.lp_verilog_draft.specs.Verdicts.{Goes, and_then}
@@ -54,18 +54,23 @@ pub record IsNet (es : Entries) (n : NameId) (r : Option BitRange) : Type 0 wher
   pub settled : entry.fixed ≡ true
   pub ranged : entry.range ≡ r
 
-use_net : (side : Side) (at : ℕ) (es : Entries) (n : NameId) (r : Option BitRange) → IsNet es n r → use_name side at es n ≡ Goes es
-use_net side at es n r h = rw (h.there) (by h.entry.kind h.net)
+settled_stays : (side : Side) (es : Entries) (n : NameId) (e : Entry) → e.fixed ≡ true → use_net side es n e ≡ Goes es
+settled_stays sides.Right es n e h = rw h refl
+settled_stays sides.Left es n e h = rw h refl
+settled_stays sides.Connection es n e h = rw h refl
+
+net_stays : (side : Side) (at : ℕ) (es : Entries) (n : NameId) (r : Option BitRange) → IsNet es n r → use_name side at es n ≡ Goes es
+net_stays side at es n r h = rw (h.there) (by h.entry.kind h.net)
   where
     by : (k : Kind) → is_net_kind k ≡ true → use_old k side es n h.entry ≡ Goes es
-    by kinds.Port e = rw (h.settled) refl
-    by kinds.Wire e = rw (h.settled) refl
+    by kinds.Port e = settled_stays side es n h.entry h.settled
+    by kinds.Wire e = settled_stays side es n h.entry h.settled
     by kinds.Instance e = absurd cc
 
 -- a net at the front of a value
 start_net : (m : Reader) (at : ℕ) (n : NameId) (r : Option BitRange) → IsNet m.draft.scope n r → start_value m at (tokens.Name n) ≡ Goes (with_value m (value_subject n r m.value))
 start_net m at n r h =
-    let used = use_net m.value.side at m.draft.scope n r h in
+    let used = net_stays m.value.side at m.draft.scope n r h in
     let ranged : range_in m.draft.scope n ≡ r = ap entry_range h.there ∙ h.ranged in
     ap (λ v. and_then (scoped m v) (λ x. Goes (with_subject n x))) used ∙ ap (λ x. Goes (with_value m (value_subject n x m.value))) ranged
 

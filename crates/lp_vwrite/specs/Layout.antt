@@ -1,6 +1,6 @@
 -- The layout of a written netlist: one item a line, two blanks before each item (own rule; names after IEEE 1364-2005,
 -- identifiers and escaped identifiers).
-use Rattle.std.specs.Prelude.{ℕ, Bool, true, false, not, ◌&&◌, ◌==◌, List, [], ◌∷◌, ◌++◌, map, codes, decimal, flat_map, filter_map, Option, Some, None, option_map, if◌then◌else◌}
+use Rattle.std.specs.Prelude.{◌≡◌, ℕ, Bool, true, false, not, ◌&&◌, ◌==◌, List, [], ◌∷◌, ◌++◌, map, codes, decimal, flat_map, filter_map, Option, Some, None, option_map, if◌then◌else◌}
 use Rattle.std.specs.List.{list_all}
 use Rattle.std.specs.Map.{lookup}
 use Rattle.lp_text.specs.Texts.{same_text, has_text}
@@ -20,6 +20,10 @@ after_comma f x = codes ", " ++ f x
 abbrev pub listed : {A : Type 0} → (A → List ℕ) → List A → List ℕ
 listed f [] = []
 listed f (x ∷ xs) = f x ++ flat_map (after_comma f) xs
+
+-- parts behind others
+abbrev pub more_listed : {A : Type 0} → (A → List ℕ) → List A → List ℕ
+more_listed f xs = flat_map (after_comma f) xs
 
 -- an identifier that is no reserved word
 abbrev pub is_plain : List ℕ → Bool
@@ -44,9 +48,15 @@ port_line p = codes "  " ++ (direction_text p.direction ++ (range_text p.range +
 abbrev pub net_line : NetView → List ℕ
 net_line n = codes "  wire " ++ (range_text n.range ++ (name_text n.name ++ codes ";\n"))
 
+abbrev pub port_nets : List PortView → List (List ℕ × Option BitRange)
+port_nets ports = map (λ p. (p.name, p.range)) ports
+
+abbrev pub wire_nets : List NetView → List (List ℕ × Option BitRange)
+wire_nets nets = map (λ n. (n.name, n.range)) nets
+
 -- what a module declares as nets, in the order of the text: ports, then wires
 abbrev pub declared : ModuleView → List (List ℕ × Option BitRange)
-declared m = map (λ p. (p.name, p.range)) m.ports ++ map (λ n. (n.name, n.range)) m.nets
+declared m = port_nets m.ports ++ wire_nets m.nets
 
 -- those that are vectors
 abbrev pub vectors_among : List (List ℕ × Option BitRange) → List (List ℕ × BitRange)
@@ -55,6 +65,9 @@ vectors_among nets = filter_map (λ n. option_map (λ r. (n.0, r)) n.1) nets
 -- the range of a name
 abbrev pub range_in : List (List ℕ × BitRange) → List ℕ → Option BitRange
 range_in vs name = lookup (same_text name) vs
+
+abbrev pub SameRanges : List (List ℕ × BitRange) → List (List ℕ × BitRange) → Type 0
+SameRanges a b = (name : List ℕ) → range_in a name ≡ range_in b name
 
 -- the bit of a net with an index
 abbrev pub is_bit_of : List ℕ → ℕ → BitView → Bool
@@ -73,9 +86,13 @@ abbrev pub whole_by : List ℕ → List BitView → Option BitRange → Option (
 whole_by name bits None = None
 whole_by name bits (Some r) = if are_bits name (between r.left r.right) bits then Some name else None
 
+-- the vector of a name, where these are all its bits
+abbrev pub whole_of : (List ℕ → Option BitRange) → List ℕ → List BitView → Option (List ℕ)
+whole_of ranges name bits = whole_by name bits (ranges name)
+
 -- the vector of which these are all bits, from the left index to the right one
 abbrev pub whole_vector : (List ℕ → Option BitRange) → List BitView → Option (List ℕ)
-whole_vector ranges (SelectBit name i ∷ bits) = whole_by name (SelectBit name i ∷ bits) (ranges name)
+whole_vector ranges (SelectBit name i ∷ bits) = whole_of ranges name (SelectBit name i ∷ bits)
 whole_vector ranges _ = None
 
 -- a scalar, a bit of a vector, or a constant

@@ -2,3 +2,4 @@ pub mod Layout
 pub mod WellFormed
 pub mod Examples
 pub mod Sound
+pub mod Views

@@ -7,6 +7,8 @@ use Rattle.lp_model.specs.declared.netlist.BitRange.{BitRange}
 use Rattle.lp_model.specs.NetlistView.{BitView, NetBit, SelectBit, ConstBit, PortView, NetView, ConnectionView, ConnectionsView, ByName, ByPosition, InstanceView, AssignView, ModuleView}
 use Rattle.lp_verilog_tokens.specs.Lexical.{is_visible}
 use Rattle.lp_verilog_draft.specs.Values.{is_in}
+use Rattle.lp_verilog.specs.Reading.{most_names}
+use Rattle.lp_verilog.specs.Reads.{Reads}
 use Rattle.lp_vwrite.specs.Layout.{declared}
 
 -- at least one byte, all visible ASCII
@@ -98,5 +100,9 @@ module_texts m = m.name ∷ (map (λ (p : PortView). p.name) m.ports ++ (map (λ
 pub record HasTable (modules : List ModuleView) : Type 0 where
   pub names : List (List ℕ)
   pub apart : distinct names ≡ true
-  pub few : length names ≤ 4294967295
+  pub few : length names ≤ most_names
   pub known : list_all (λ t. has_text t names) (flat_map module_texts modules) ≡ true
+
+-- a text reads as a netlist, if that is well formed and its names can have a table
+abbrev pub ReadsBack : List ℕ → List ModuleView → Type 0
+ReadsBack text modules = IsWellFormed modules → HasTable modules → Reads text modules

@@ -1,8 +1,9 @@
-ghost use Rattle.std.specs.Prelude.{◌≡◌, ◌++◌, ◌<◌, length, flat_map, slice_index, OnOk, option_map};
+ghost use Rattle.std.specs.Prelude.{◌≡◌, ◌++◌, ◌<◌, length, slice_index, OnOk};
 ghost use Rattle.lp_text.specs.Texts.{text_at};
 ghost use Rattle.lp_model.specs.NetlistView.{bit_view, bits_view};
 ghost use Rattle.lp_verilog_draft.specs.Values.{between};
-ghost use Rattle.lp_vwrite.specs.Layout.{after_comma, bit_text, bits_text, is_bit_of, are_bits, range_in, whole_by, whole_vector, value_text};
+ghost use Rattle.lp_vwrite.specs.Layout.{more_listed, bit_text, bits_text, is_bit_of, are_bits, range_in, whole_of, whole_vector, value_text};
+ghost use Rattle.lp_vwrite.specs.Views.{name_at};
 
 use crate::name::{is_same, put_name, text_of};
 use crate::vectors::Vectors;
@@ -74,7 +75,7 @@ fn are_bits(names: &Names, name: NameId, range: BitRange, bits: &[Bit]) -> bool
 
 /// The vector of this name, where these are all its bits.
 fn whole_of(names: &Names, vectors: &Vectors, name: NameId, bits: &[Bit]) -> Option<NameId>
-    ensures { option_map (λ n. text_at names.now n.0) result ≡ whole_by (text_at names.now name.0) (bits_view names.now bits.now) (range_in vectors.now (text_at names.now name.0)) }
+    ensures { name_at names.now result ≡ whole_of (range_in vectors.now) (text_at names.now name.0) (bits_view names.now bits.now) }
 {
     match vectors.find(text_of(names, name)) {
         None => None,
@@ -90,7 +91,7 @@ fn whole_of(names: &Names, vectors: &Vectors, name: NameId, bits: &[Bit]) -> Opt
 
 /// The vector of which these are all bits.
 fn whole_vector(names: &Names, vectors: &Vectors, bits: &[Bit]) -> Option<NameId>
-    ensures { option_map (λ n. text_at names.now n.0) result ≡ whole_vector (range_in vectors.now) (bits_view names.now bits.now) }
+    ensures { name_at names.now result ≡ whole_vector (range_in vectors.now) (bits_view names.now bits.now) }
 {
     match bits {
         [Bit::Select(name, _), ..] => whole_of(names, vectors, *name, bits),
@@ -99,7 +100,7 @@ fn whole_vector(names: &Names, vectors: &Vectors, bits: &[Bit]) -> Option<NameId
 }
 
 fn put_more_bits(out: &mut Vec<u8>, names: &Names, bits: &[Bit]) -> Result<(), NoMemory>
-    ensures { OnOk result (out.new.items ≡ out.old.items ++ flat_map (after_comma bit_text) (bits_view names.now bits.now)) }
+    ensures { OnOk result (out.new.items ≡ out.old.items ++ more_listed bit_text (bits_view names.now bits.now)) }
 {
     for bit in bits {
         out.extend_from_slice(b", ")?;

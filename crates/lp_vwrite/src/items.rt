@@ -1,7 +1,7 @@
-ghost use Rattle.std.specs.Prelude.{◌≡◌, ◌++◌, map, flat_map, decimal, codes, OnOk};
-ghost use Rattle.lp_text.specs.Texts.{text_at};
-ghost use Rattle.lp_model.specs.NetlistView.{bits_view, port_view, net_view, connection_view, connections_view, instance_view, assign_view};
-ghost use Rattle.lp_vwrite.specs.Layout.{after_comma, listed, range_text, port_line, net_line, value_text, connection_text, connections_text, instance_line, assign_line, range_in};
+ghost use Rattle.std.specs.Prelude.{◌≡◌, ◌++◌, OnOk};
+ghost use Rattle.lp_model.specs.NetlistView.{port_view, net_view, connection_view, connections_view, instance_view, assign_view};
+ghost use Rattle.lp_vwrite.specs.Layout.{more_listed, listed, range_text, port_line, net_line, value_text, connection_text, connections_text, instance_line, assign_line, range_in};
+ghost use Rattle.lp_vwrite.specs.Views.{named_view, ordered_view};
 
 use crate::bits::put_value;
 use crate::name::put_name;
@@ -74,7 +74,7 @@ fn put_more_connections(
     vectors: &Vectors,
     connections: &[Connection],
 ) -> Result<(), NoMemory>
-    ensures { OnOk result (out.new.items ≡ out.old.items ++ flat_map (after_comma (connection_text (range_in vectors.now))) (map (connection_view names.now) connections.now)) }
+    ensures { OnOk result (out.new.items ≡ out.old.items ++ more_listed (connection_text (range_in vectors.now)) (named_view names.now connections.now)) }
 {
     for connection in connections {
         out.extend_from_slice(b", ")?;
@@ -90,7 +90,7 @@ fn put_named(
     vectors: &Vectors,
     connections: &[Connection],
 ) -> Result<(), NoMemory>
-    ensures { OnOk result (out.new.items ≡ out.old.items ++ listed (connection_text (range_in vectors.now)) (map (connection_view names.now) connections.now)) }
+    ensures { OnOk result (out.new.items ≡ out.old.items ++ listed (connection_text (range_in vectors.now)) (named_view names.now connections.now)) }
 {
     match connections {
         [] => Ok(()),
@@ -108,7 +108,7 @@ fn put_more_values(
     vectors: &Vectors,
     values: &[Bits],
 ) -> Result<(), NoMemory>
-    ensures { OnOk result (out.new.items ≡ out.old.items ++ flat_map (after_comma (value_text (range_in vectors.now))) (map (bits_view names.now) values.now)) }
+    ensures { OnOk result (out.new.items ≡ out.old.items ++ more_listed (value_text (range_in vectors.now)) (ordered_view names.now values.now)) }
 {
     for value in values {
         out.extend_from_slice(b", ")?;
@@ -124,7 +124,7 @@ fn put_ordered(
     vectors: &Vectors,
     values: &[Bits],
 ) -> Result<(), NoMemory>
-    ensures { OnOk result (out.new.items ≡ out.old.items ++ listed (value_text (range_in vectors.now)) (map (bits_view names.now) values.now)) }
+    ensures { OnOk result (out.new.items ≡ out.old.items ++ listed (value_text (range_in vectors.now)) (ordered_view names.now values.now)) }
 {
     match values {
         [] => Ok(()),

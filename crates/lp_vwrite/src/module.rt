@@ -1,7 +1,7 @@
 ghost use Rattle.std.specs.Prelude.{◌≡◌, ◌++◌, ℕ, List, map, flat_map, OnOk, IfOk};
 ghost use Rattle.lp_text.specs.Texts.{text_at};
 ghost use Rattle.lp_model.specs.NetlistView.{port_view, net_view, instance_view, assign_view, module_view};
-ghost use Rattle.lp_vwrite.specs.Layout.{after_comma, listed, name_text, header_line, port_line, net_line, instance_line, assign_line, vectors_among, range_in, range_of, module_text};
+ghost use Rattle.lp_vwrite.specs.Layout.{more_listed, listed, name_text, header_line, port_line, net_line, instance_line, assign_line, vectors_among, port_nets, wire_nets, SameRanges, range_in, range_of, module_text};
 
 use crate::items::{put_assign, put_instance, put_net, put_port};
 use crate::name::{put_name, text_of};
@@ -11,7 +11,7 @@ use lp_text::{Names, NoMemory};
 use std::alloc::Global;
 
 fn put_more_port_names(out: &mut Vec<u8>, names: &Names, ports: &[Port]) -> Result<(), NoMemory>
-    ensures { OnOk result (out.new.items ≡ out.old.items ++ flat_map (after_comma (λ p. name_text p.name)) (map (port_view names.now) ports.now)) }
+    ensures { OnOk result (out.new.items ≡ out.old.items ++ more_listed (λ p. name_text p.name) (map (port_view names.now) ports.now)) }
 {
     for port in ports {
         out.extend_from_slice(b", ")?;
@@ -93,7 +93,7 @@ fn put_assigns(
 
 /// Adds the ports that are vectors.
 fn add_ports(vectors: &mut Vectors, names: &Names, ports: &[Port]) -> Result<(), NoMemory>
-    ensures { OnOk result ((t : List ℕ) → range_in vectors.new t ≡ range_in (vectors.old ++ vectors_among (map (λ p. (p.name, p.range)) (map (port_view names.now) ports.now))) t) }
+    ensures { OnOk result (SameRanges vectors.new (vectors.old ++ vectors_among (port_nets (map (port_view names.now) ports.now)))) }
 {
     for port in ports {
         if let Some(range) = port.range {
@@ -105,7 +105,7 @@ fn add_ports(vectors: &mut Vectors, names: &Names, ports: &[Port]) -> Result<(),
 
 /// Adds the wires that are vectors.
 fn add_nets(vectors: &mut Vectors, names: &Names, nets: &[NetDecl]) -> Result<(), NoMemory>
-    ensures { OnOk result ((t : List ℕ) → range_in vectors.new t ≡ range_in (vectors.old ++ vectors_among (map (λ n. (n.name, n.range)) (map (net_view names.now) nets.now))) t) }
+    ensures { OnOk result (SameRanges vectors.new (vectors.old ++ vectors_among (wire_nets (map (net_view names.now) nets.now)))) }
 {
     for net in nets {
         if let Some(range) = net.range {

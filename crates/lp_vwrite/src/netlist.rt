@@ -1,8 +1,7 @@
 ghost use Rattle.std.specs.Prelude.{◌≡◌, ◌++◌, map, flat_map, OnOk, IfOk};
 ghost use Rattle.lp_model.specs.NetlistView.{module_view, netlist_view};
-ghost use Rattle.lp_verilog.specs.Reads.{Reads};
 ghost use Rattle.lp_vwrite.specs.Layout.{module_text, layout};
-ghost use Rattle.lp_vwrite.specs.WellFormed.{IsWellFormed, HasTable};
+ghost use Rattle.lp_vwrite.specs.WellFormed.{ReadsBack};
 
 use crate::module::put_module;
 use lp_model::{Module, Netlist};
@@ -33,7 +32,7 @@ fn put_modules(
 #[tactic(auto, unfolding(crate::specs::Layout::layout))]
 pub fn write_netlist(alloc: Global, names: &Names, netlist: &Netlist) -> Result<Bytes, NoMemory>
     ensures laid_out { IfOk result (λ text. text ≡ layout (netlist_view names.now netlist.now)) }
-    ensures reads { IfOk result (λ text. IsWellFormed (netlist_view names.now netlist.now) → HasTable (netlist_view names.now netlist.now) → Reads text (netlist_view names.now netlist.now)) }
+    ensures reads { IfOk result (λ text. ReadsBack text (netlist_view names.now netlist.now)) }
 {
     let mut out = Vec::new(alloc);
     put_modules(alloc, &mut out, names, netlist.modules.as_slice())?;

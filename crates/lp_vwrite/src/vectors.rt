@@ -1,5 +1,5 @@
-ghost use Rattle.std.specs.Prelude.{◌≡◌, [], ◌∷◌, ◌++◌, ℕ, List, OnOk, IfOk};
-ghost use Rattle.lp_vwrite.specs.Layout.{range_in};
+ghost use Rattle.std.specs.Prelude.{◌≡◌, [], ◌∷◌, ◌++◌, OnOk};
+ghost use Rattle.lp_vwrite.specs.Layout.{SameRanges, range_in};
 
 use indexmap::IndexMap;
 use lp_model::BitRange;
@@ -43,7 +43,7 @@ impl Vectors {
 
     /// Gives a name its range, where it has none yet.
     pub(crate) fn add(&mut self, name: &str, range: BitRange) -> Result<(), NoMemory>
-        ensures { OnOk result ((t : List ℕ) → range_in self.new t ≡ range_in (self.old ++ (name.now, range) ∷ []) t) }
+        ensures { OnOk result (SameRanges self.new (self.old ++ (name.now, range) ∷ [])) }
     {
         if self.find(name).is_none() {
             let copy = String::from_str(self.alloc, name)?;

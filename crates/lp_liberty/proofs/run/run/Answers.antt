@@ -1,11 +1,12 @@
-use Rattle.std.proofs.Common.{◌≡◌, ℕ, suc, ◌+◌, ◌-◌, ◌≤◌, length, drop, IfOk, IfErr, sym, ap, ◌∙◌, subst, refl, arith, true, false, List, take, length-drop, drop-drop}
+use Rattle.std.proofs.Common.{◌≡◌, ℕ, suc, ◌+◌, ◌-◌, ◌≤◌, None, length, drop, IfOk, IfErr, sym, ap, ◌∙◌, subst, refl, arith, true, false, List, take, length-drop, drop-drop}
 use Rattle.std.proofs.lemmas.Result.{err_from_is_err_and}
 use Rattle.lp_liberty.specs.declared.mark.Sort.{Sort}
 use Rattle.lp_liberty.specs.declared.mark.Sort.TheVariants as sorts
-use Rattle.lp_liberty.specs.Lexing.{is_end}
-use Rattle.lp_liberty.specs.Machine.{Reading, Whole, finished, read_in, context_of, start}
+use Rattle.lp_liberty.specs.declared.lexed.Lexed.{Lexed}
+use Rattle.lp_liberty.specs.Lexing.{is_end, lexed_at}
+use Rattle.lp_liberty.specs.Machine.{Reading, Taken, Whole, finished, next_step, read_in, context_of, start, stop_ahead}
 use Rattle.lp_liberty.specs.Tokens.{tokens_of, tokens_from, token_of}
-use Rattle.lp_liberty.specs.Outcome.{IsStop}
+use Rattle.lp_liberty.specs.Outcome.{IsStop, RefusedBy}
 use Rattle.lp_text.specs.Texts.{Grown-trans}
 use Rattle.lp_liberty.proofs.Running.{unfolded, read_end, read_refused, read_taken, with_token}
 use Rattle.std.proofs.lemmas.List.{take_all}
@@ -19,11 +20,11 @@ ends sorts.Word e = absurd cc
 ends sorts.Quoted e = absurd cc
 ends (sorts.Mark k) e = absurd cc
 
-goes_on : (s : Sort) → is_end s ≡ false → s ≡ sorts.End → ⊥
-goes_on sorts.End e h = cc
-goes_on sorts.Word e h = cc
-goes_on sorts.Quoted e h = cc
-goes_on (sorts.Mark k) e h = cc
+goes_on : (rest : List ℕ) (l : Lexed) (s : Sort) → is_end s ≡ false → token_of rest l s ≡ None → ⊥
+goes_on rest l sorts.End e h = cc
+goes_on rest l sorts.Word e h = cc
+goes_on rest l sorts.Quoted e h = cc
+goes_on rest l (sorts.Mark k) e h = cc
 
 -- what is left of a text
 abbrev rest_of : List ℕ → ℕ → List ℕ
@@ -40,6 +41,14 @@ at_token c =
     let left : size - c.loop-round.round ≡ suc (size - (c.loop-round.round + 1)) = (let more = c.loop-round-test.true in omega arith) in
     sym c.loop-round.invariant.reads
     ∙ ap (read_in size c.loop-round.names c.loop-round.reader) (unfolded size c.loop-round.names c.loop-round.reader c.loop-round.at (size - c.loop-round.round) (size - (c.loop-round.round + 1)) c.args.text.now left c.context.result c.context.ensures (rest_of c.args.text.now c.loop-round.at) (rest_is c.args.text.now c.loop-round.at) c.lexed_at-token.result c.lexed_at-token.ensures.value)
+
+-- the next token, in the context of the reader
+lexed_here : (c : After-is_end) → c.lexed_at-token.result ≡ lexed_at (context_of c.loop-round.reader.mode) (rest_of c.args.text.now c.loop-round.at)
+lexed_here c = c.lexed_at-token.ensures.value ∙ ap (λ x. lexed_at x (rest_of c.args.text.now c.loop-round.at)) c.context.ensures
+
+-- it is one of the tokens that are left
+left_here : (c : After-is_end) → length c.args.text.now - c.loop-round.round ≡ suc (length c.args.text.now - (c.loop-round.round + 1))
+left_here c = let more = c.loop-round-test.true in omega arith
 
 at_end : (c : After-is_end) → c.is_end.result ≡ true → read_in (length c.args.text.now) c.args.names.now start (tokens_of c.args.text.now) ≡ finished (length c.args.text.now) c.loop-round.names c.loop-round.reader
 at_end c e =
@@ -63,7 +72,8 @@ returns-in_err-step-clause-err c =
     let at = (goal.at.returns-in_err-step-clause-err c).After-is_end in
     let size = length c.args.text.now in
     let l = c.lexed_at-token.result in
-    let here = read_refused size c.loop-round.names c.loop-round.reader (size - (c.loop-round.round + 1)) c.loop-round.at (rest_of c.args.text.now c.loop-round.at) l c.in_err-step.field-0.0 l.sort (goes_on l.sort (sym c.is_end.ensures ∙ c.if-is_end.false)) c.in_err-step.ensures.err in
+    let refused = subst (λ (k : ℕ). RefusedBy c.in_err-step.field-0.0 (next_step k (rest_of c.args.text.now c.loop-round.at) c.loop-round.names c.loop-round.reader l (c.loop-round.at + l.start))) (left_here at) c.in_err-step.ensures.err in
+    let here = read_refused size c.loop-round.names c.loop-round.reader (size - (c.loop-round.round + 1)) c.loop-round.at (rest_of c.args.text.now c.loop-round.at) l c.in_err-step.field-0.0 (lexed_here at) (goes_on (rest_of c.args.text.now c.loop-round.at) l l.sort (sym c.is_end.ensures ∙ c.if-is_end.false)) refused in
     rw (p.1, p.2) (subst (IsStop c.in_err-step.field-0.0) (sym (at_token at)) here)
 
 pub returns-clause-ok : goal.returns-clause-ok
@@ -90,15 +100,15 @@ loop-round-preserved c =
     let n = c.step.new.reader in
     let k = size - (c.loop-round.round + 1) in
     let rest = rest_of text c.loop-round.at in
-    let taken = c.in_ok-step.ensures.ok in
-    let here = read_taken size c.loop-round.names m k c.loop-round.at rest l c.step.new.names n l.sort (goes_on l.sort (sym c.is_end.ensures ∙ c.if-is_end.false)) taken in
+    let taken = subst (λ (j : ℕ). next_step j rest c.loop-round.names m l (c.loop-round.at + l.start) ≡ Taken c.step.new.names n) (left_here at) c.in_ok-step.ensures.ok in
+    let here = read_taken size c.loop-round.names m k c.loop-round.at rest l c.step.new.names n (lexed_here at) (goes_on rest l l.sort (sym c.is_end.ensures ∙ c.if-is_end.false)) taken in
     let cut : drop (l.start + l.size) rest ≡ drop (c.loop-round.at + (l.start + l.size)) text = ap (drop (l.start + l.size)) (rest_is text c.loop-round.at) ∙ drop-drop (l.start + l.size) c.loop-round.at text in
     let moved : read_in size c.args.names.now start (tokens_of text) ≡ read_in size c.step.new.names n (tokens_from k (context_of n.mode) (c.loop-round.at + (l.start + l.size)) (drop (c.loop-round.at + (l.start + l.size)) text)) =
     at_token at ∙ here ∙ ap (λ ts. read_in size c.step.new.names n (tokens_from k (context_of n.mode) (c.loop-round.at + (l.start + l.size)) ts)) cut in
     let inside : l.start + l.size ≤ length rest = c.lexed_at-token.ensures.within in
     let long : length rest ≡ size - c.loop-round.at = ap length (rest_is text c.loop-round.at) ∙ length-drop c.loop-round.at text in
     let within : c.loop-round.at ≤ size = c.loop-round.invariant.inside in
-    let groups : length n.groups ≤ length m.groups + 1 = step_few c.loop-round.names c.step.new.names m n (c.loop-round.at + l.start) l.size (token_of rest l l.sort) taken in
+    let groups : length n.groups ≤ length m.groups + 1 = step_few c.loop-round.names c.step.new.names m n (c.loop-round.at + l.start) (stop_ahead (suc k) rest m (c.loop-round.at + l.start)) l.size (token_of rest l l.sort) taken in
     let before : length m.groups ≤ c.loop-round.round = c.loop-round.invariant.groups in
     let few : length c.loop-round.names ≤ length c.args.names.now + c.loop-round.round = c.loop-round.invariant.few in
     let small : length c.step.new.names ≤ length c.loop-round.names + 1 = c.in_ok-step.ensures.small in

@@ -7,4 +7,4 @@ use Rattle.lp_parts.specs.Names.{with_variables}
 use Rattle.lp_parts.proofs.naming.add_states.Given as goal
 
 abbrev pub invariant-loop-group : goal.invariant-loop-group
-invariant-loop-group l = fold (with_variables l.place l.pins) l.set (map (group_view l.names) (drop l.group-index l.groups)) ≡ fold (with_variables l.place l.pins) l.fn.set (map (group_view l.names) l.groups)
+invariant-loop-group l = fold (with_variables l.place) l.set (map (group_view l.names) (drop l.group-index l.groups)) ≡ fold (with_variables l.place) l.fn.set (map (group_view l.names) l.groups)

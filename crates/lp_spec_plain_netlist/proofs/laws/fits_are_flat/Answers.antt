@@ -16,4 +16,4 @@ returns c cells m power gnd margin single read fit plain apart =
     and_from _ _ (ap not (ports-apart power gnd apart))
     (and_from _ _ (ap has_no_assign (no_assign m single))
     (and_from _ _ (all-weaker (λ (p : PortView). is_free p.name) (λ (p : PortView). not (is_supply f p.name)) (λ p e. free-supply f p.name e) m.ports (ports_free m single))
-    (instances_flat cells m power gnd margin single parts.no_cell m.instances parts.joined parts.named plain (written_parts m parts.written).instances)))
+    (instances_flat cells m power gnd margin single parts.no_cell m.instances parts.joined parts.known plain (written_parts m parts.written).instances)))

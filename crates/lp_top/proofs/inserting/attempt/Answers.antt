@@ -3,7 +3,7 @@ use Rattle.std.specs.Option.{option_map}
 use Rattle.lp_top.specs.Words.{files_of, input_files}
 use Rattle.lp_top.specs.Reading.{HoldsAll, count_more}
 use Rattle.lp_top.specs.Inserting.{StoresBoth}
-use Rattle.lp_top.proofs.InsertingLaws.{few-inputs, length-names, written-held, headline-held, fault-held, stores-files, stores-no_usage, stores-missed, stores-counts}
+use Rattle.lp_top.proofs.InsertingLaws.{few-inputs, length-names, read-held, written-held, headline-held, fault-held, stores-files, stores-no_usage, stores-missed, stores-counts}
 use Rattle.lp_top.proofs.inserting.attempt.Goals as goal
 
 pub insert_texts-requires-clause-all : goal.insert_texts-requires-clause-all
@@ -28,6 +28,7 @@ returns-in-Ok-insert_texts-clause-files g c =
     let holds : HoldsAll old (input_files f) c.in-Ok-read_files.texts = subst (λ ns. HoldsAll old ns c.in-Ok-read_files.texts) names c.in-Ok-read_files.ensures.gives in
     let holds : HoldsAll old (input_files f) c.as_slice.result.now = subst (HoldsAll old (input_files f)) (sym c.as_slice.ensures) holds in
     stores-files f old (g.S.Shelf.held c.store.new.shelf) c.in-Ok-insert_texts.written.netlist c.in-Ok-insert_texts.written.report c.store.result
+    (read-held old f c.as_slice.result.now holds)
     (written-held old f c.as_slice.result.now c.in-Ok-insert_texts.written.netlist c.in-Ok-insert_texts.written.report holds c.in-Ok-insert_texts.ensures.written)
     (headline-held old f c.as_slice.result.now c.in-Ok-insert_texts.written.netlist holds c.in-Ok-insert_texts.ensures.headline)
     (subst (λ h. StoresBoth f c.in-Ok-insert_texts.written.netlist c.in-Ok-insert_texts.written.report h (g.S.Shelf.held c.store.new.shelf) c.store.result) c.in-Ok-read_files.ensures.keeps_held c.store.ensures.files)
@@ -61,4 +62,8 @@ returns-in-Err-Fault-clause-files g c =
     let names : map (λ n. n.now) c.deref.result.now ≡ input_files f = ap (map (λ n. n.now)) c.deref.ensures.value ∙ c.in-Ok.ensures in
     let holds : HoldsAll old (input_files f) c.in-Ok-read_files.texts = subst (λ ns. HoldsAll old ns c.in-Ok-read_files.texts) names c.in-Ok-read_files.ensures.gives in
     let slice : HoldsAll old (input_files f) c.as_slice.result.now = subst (HoldsAll old (input_files f)) (sym c.as_slice.ensures) holds in
-    (c.in-Ok-read_files.ensures.keeps_held, fault-held old f c.as_slice.result.now c.in-Err-Fault.fault slice (rw c.in-Err-Fault.field-0-is at c.in-Err-Fault.ensures.refused))
+    record {
+      kept = c.in-Ok-read_files.ensures.keeps_held;
+      read = read-held old f c.as_slice.result.now slice;
+      first = fault-held old f c.as_slice.result.now c.in-Err-Fault.fault slice (rw c.in-Err-Fault.field-0-is at c.in-Err-Fault.ensures.refused);
+    }

@@ -40,6 +40,12 @@ returns-clause-files g c b is apart =
     (subst (λ h. ByFiles (files_of c.in-Some.command) (g.S.Shelf.held c.args.shelf.now) h c.attempt-outcome.result) (sym c.tell-2.ensures.keeps_held) c.attempt-outcome.ensures.files)
     c.tell-2.ensures.kept)
 
+-- words that are a command whose files do not clash are no matter of this clause
+pub returns-clause-unread : goal.returns-clause-unread
+returns-clause-unread g c none =
+    let found : IsCommand c.args.words.now (files_of c.in-Some.command) = command-found c.args.words.now (files_of c.in-Some.command) (sym c.in-Some.ensures) in
+    absurd (none (files_of c.in-Some.command) found (sym c.has_clash.ensures ∙ c.if-has_clash.false))
+
 pub returns-clause-counts : goal.returns-clause-counts
 returns-clause-counts g c =
     counts-join (g.S.Shelf.faults c.args.shelf.now) (g.S.Shelf.faults c.attempt-outcome.new.shelf) (g.S.Shelf.faults c.tell-2.new.shelf) c.attempt-outcome.result c.tell-2.result
