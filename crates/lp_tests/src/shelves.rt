@@ -1,5 +1,5 @@
 //! Shelves that fail, and the files of the host.
-use lp_text::{FileShelf, LIMIT, MemShelf, NeverFails, Shelf, ShelfFault};
+use lp_text::{FileShelf, MemShelf, NeverFails, Shelf, ShelfFault};
 use std::alloc::Global;
 use std::test::Fail;
 use std::{env, fs, process};
@@ -47,16 +47,13 @@ fn fails_by_number(rt: HostRuntime) -> Result<(), Fail> {
 }
 
 #[test]
-fn takes_no_file_above_the_limit(rt: HostRuntime) -> Result<(), Fail> {
+fn never_fails(rt: HostRuntime) -> Result<(), Fail> {
     let alloc = rt.alloc();
     let mut shelf = NeverFails::new(alloc)?;
-    assert_eq!(rt;
-        reading(alloc, &mut shelf, "a"),
-        "done",
-        "no such file is empty"
-    );
-    shelf.add_file("a", vec![in alloc; 0u8; LIMIT + 1]?.as_slice())?;
-    assert_eq!(rt; reading(alloc, &mut shelf, "a"), "too long");
+    assert_eq!(rt; reading(alloc, &mut shelf, "a"), "done", "no such file");
+    shelf.add_file("a", b"one")?;
+    assert_eq!(rt; reading(alloc, &mut shelf, "a"), "done");
+    assert_eq!(rt; shelf.read(alloc, "a")?.as_slice(), b"one".as_slice());
     Ok(())
 }
 
