@@ -49,11 +49,11 @@ child_below s (suc depth) q p c (inr h) g =
     let at = of-flat (below s depth) p (children s q) h in
     inr (in-flat (below s (suc depth)) at.0 c (children s q) at.1 (child_below s depth at.0 p c at.2 g))
 
-then_is : {A B : Type 0} (f : A → Option B) (o : Option A) (y : B) → option_and_then f o ≡ Some y → (x : A) × (o ≡ Some x) × (f x ≡ Some y)
+pub then_is : {A B : Type 0} (f : A → Option B) (o : Option A) (y : B) → option_and_then f o ≡ Some y → (x : A) × (o ≡ Some x) × (f x ≡ Some y)
 then_is f None y e = absurd cc
 then_is f (Some x) y e = (x, refl, e)
 
-first_in : {A : Type 0} (p : A → Bool) (xs : List A) (x : A) → first p xs ≡ Some x → IsIn x xs × (p x ≡ true)
+pub first_in : {A : Type 0} (p : A → Bool) (xs : List A) (x : A) → first p xs ≡ Some x → IsIn x xs × (p x ≡ true)
 first_in p [] x e = absurd cc
 first_in p (y ∷ xs) x e = by (p y) refl (first_in p xs x)
   where

@@ -6,5 +6,5 @@
 mod laws;
 mod lines;
 
-pub use laws::a_row_has_a_combination;
+pub use laws::{a_row_has_a_combination, no_instance_is_deeper};
 pub use lines::{a_line_has_its_first, ends_without_fault, stops_at_the_fault};
