@@ -1,5 +1,5 @@
 -- What a netlist of a project is, whatever it computes: it elaborates over the project's cells, and its top has the source's ports and the supply ports (IEEE 1364-2005, hierarchical structures, port connections, continuous assignments; own rule).
-use Rattle.std.specs.Prelude.{◌≡◌, ℕ, ◌==◌, nat_le, nat_lt, Bool, true, false, not, ◌&&◌, ◌||◌, List, [], ◌∷◌, ◌++◌, map, length, Option, Some, None, is_some, is_none, bytes_eq, flat_map, IsTrue}
+use Rattle.std.specs.Prelude.{◌≡◌, ℕ, ◌==◌, nat_le, nat_lt, Bool, true, false, not, ◌&&◌, ◌||◌, List, [], ◌∷◌, ◌++◌, map, length, Option, Some, None, is_some, bytes_eq, IsTrue}
 use Rattle.std.specs.List.{list_any, list_all}
 use Rattle.lp_model.specs.NetlistView.{BitView, NetBit, SelectBit, ConstBit, PortView, NetView, InstanceView, ModuleView}
 use Rattle.lp_spec_design.specs.Keys.{Name, Path, Node, Inner, same_node}
