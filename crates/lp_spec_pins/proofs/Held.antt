@@ -13,7 +13,7 @@ use Rattle.lp_model.specs.LibraryView.{ExprView, SwitchedView, PinView, StateVie
 use Rattle.lp_spec_design.specs.Keys.{Name, Path, Node, Inner, Outer, Fixed, Source, CellPin, SwitchedPin, Environment, From}
 use Rattle.lp_spec_design.specs.Netlists.{cell_at}
 use Rattle.lp_spec_design.specs.Graph.{source_of}
-use Rattle.lp_spec_design.specs.Settled.{Logic, State, Registers, kept, pin_named, state_named, value_named, function_value, output_by}
+use Rattle.lp_spec_design.specs.Settled.{Logic, State, Registers, kept, pin_named, read_pin, state_named, value_named, function_value, output_by}
 use Rattle.lp_spec_design.specs.Registers.{holds_state}
 use Rattle.lp_spec_pins.specs.Pins.{FromTop, FromSwitched, Powered, PinKey, Signal, Supply, PinAssignment, PinEvent, pins_read, is_up, is_unfit, output_at, cell_output_at, signal_equation, state_of_pg, switched_of, switched_state, switch_equation, pg_named, pin_equation}
 
@@ -34,7 +34,7 @@ without_bit f e One = ap agreed (append-nil (f true) ∙ e)
 without_bit f e X = ap (λ ys. agreed (f false ++ ys)) (append-nil (f true) ∙ e) ∙ agreed-twice (f false)
 
 abbrev outcomes : CellView → (Name → Tern) → ExprView → Bool → List Bool
-outcomes c seen e bit = map (truth e.steps) (completions (map (λ v. value_named (pin_named c v) (seen v) (state_named c.state bit v)) e.variables))
+outcomes c seen e bit = map (truth e.steps) (completions (map (λ v. value_named (read_pin c v) (seen v) (state_named c.state bit v)) e.variables))
 
 stateless : (c : CellView) (seen : Name → Tern) (a b : Tern) (e : ExprView) → c.state ≡ None → function_value c seen a e ≡ function_value c seen b e
 stateless c seen a b e is = without_bit (outcomes c seen e) same a ∙ sym (without_bit (outcomes c seen e) same b)
@@ -43,7 +43,7 @@ stateless c seen a b e is = without_bit (outcomes c seen e) same a ∙ sym (with
     none bit v = ap (λ s. state_named s bit v) is
 
     same : outcomes c seen e true ≡ outcomes c seen e false
-    same = λ i. map (truth e.steps) (completions (map (λ v. value_named (pin_named c v) (seen v) ((none true v ∙ sym (none false v)) i)) e.variables))
+    same = λ i. map (truth e.steps) (completions (map (λ v. value_named (read_pin c v) (seen v) ((none true v ∙ sym (none false v)) i)) e.variables))
 
 module _ (w : Powered) (B : PinAssignment) (r q : Registers) (held : (p : Path) (x : Name) → holds_state (cell_at w.structure p x) ≡ true → r p x ≡ q p x) where
   module _ (p : Path) (x : Name) (c : CellView) (cell : cell_at w.structure p x ≡ Some c) where

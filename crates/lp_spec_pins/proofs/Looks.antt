@@ -16,7 +16,7 @@ use Rattle.lp_spec_design.specs.Netlists.{cell_at}
 use Rattle.lp_spec_design.specs.Graph.{source_of}
 use Rattle.lp_spec_design.specs.Settled.{read_pin, Logic, State, Registers, logic_in, state_in, kept, pin_named, node_at_pin, state_named, value_named, named_value, output_by}
 use Rattle.lp_spec_pins.specs.Pins.{SupplySource, FromTop, FromSwitched, SupplyNodes, Powered, PinKey, Signal, Supply, PinAssignment, PinEvent, signal_at, begins, supply_of_node, state_from, source_of_pg, state_of_ground, pair_on, related, state_pair, related_of_pin, related_of, pin_supply_begun, driver_begun, some_under, is_joined, is_input_pin, input_value, pin_value, pins_read, onness, pg_named, sources_named, is_zero_for, is_up, outside_by, input_for, is_data, driving_pin, input_supply, is_unfit_at, output_at, cell_output_at, top_input, signal_equation, switched_of, switched_state, switch_equation, pin_equation}
-use Rattle.lp_spec_pins.specs.Reads.{supply_keys, pair_keys, pg_keys, ground_keys, related_keys, related_of_pin_keys, related_of_keys, pin_supply_keys, driver_keys, driving_keys, signal_keys, input_keys, pin_keys, named_keys, function_keys, up_keys, driving_pin_keys, shifted_keys, unfit_keys_at, unfit_keys, output_keys, cell_keys, top_keys, source_keys, switched_keys, switch_keys, reads, keys}
+use Rattle.lp_spec_pins.specs.Reads.{supply_keys, pair_keys, pg_keys, ground_keys, related_keys, related_of_pin_keys, related_of_keys, pin_supply_keys, driver_keys, driving_keys, signal_keys, input_keys, pin_keys, read_keys, named_keys, function_keys, up_keys, driving_pin_keys, shifted_keys, unfit_keys_at, unfit_keys, output_keys, cell_keys, top_keys, source_keys, switched_keys, switch_keys, reads, keys}
 
 module _ (w : Powered) (A B : PinAssignment) where
   -- the two give the same values to the keys of a list
