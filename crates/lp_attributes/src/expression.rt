@@ -22,7 +22,8 @@ const MOST: usize = 12;
 /// The number of a name in the table, where it is among the names that may stand.
 fn standing_name(names: &Names, stand: &Table, name: &str) -> Option<NameId>
     requires known { IsTrue (are_known names.now stand.now) }
-    ensures { MatchOption result (has_text name.now stand.now ≡ false) (λ id. (has_text name.now stand.now ≡ true) × (id.0 < length names.now) × (text_at names.now id.0 ≡ name.now)) }
+    ensures { MatchOption result (has_text name.now stand.now ≡ false) (λ id. (has_text name.now stand.now ≡ true)
+        × (id.0 < length names.now) × (text_at names.now id.0 ≡ name.now)) }
 {
     match stand.find(name.as_bytes()) {
         None => None,
@@ -40,7 +41,8 @@ fn standing_names(
     variables: &[NameId],
 ) -> Result<Option<Vec<NameId>>, NoMemory>
     requires known { IsTrue (are_known names.now stand.now) }
-    ensures none { IfOk result (λ o. MatchOption o (list_all (λ n. has_text n stand.now) (name_texts own.now variables.now) ≡ false) (λ ids. list_all (λ n. has_text n stand.now) (name_texts own.now variables.now) ≡ true)) }
+    ensures none { IfOk result (λ o. MatchOption o (list_all (λ n. has_text n stand.now) (name_texts own.now variables.now) ≡ false)
+        (λ ids. list_all (λ n. has_text n stand.now) (name_texts own.now variables.now) ≡ true)) }
     ensures same { IfOk result (λ o. IfSome o (λ ids. name_texts names.now ids.items ≡ name_texts own.now variables.now)) }
     ensures below { IfOk result (λ o. IfSome o (λ ids. numbers_below (length names.now) (name_numbers ids.items) ≡ true)) }
 {

@@ -1,3 +1,4 @@
 pub mod Cells
 pub mod Reasons
 pub mod Sound
+pub mod Laws

@@ -70,7 +70,8 @@ fn cell_by(
 ) -> Result<Cell, NoMemory>
     requires empty { IsTrue (has_text [] names.now) }
     requires knows { Knows names.now frame }
-    ensures same { IfOk result (λ c. cell_view names.now c ≡ cell_by place (frame_view names.now frame) (group_view names.now head.now) (map (group_view names.now) groups.now)) }
+    ensures same { IfOk result (λ c. cell_view names.now c
+        ≡ cell_by place (frame_view names.now frame) (group_view names.now head.now) (map (group_view names.now) groups.now)) }
     ensures below { IfOk result (λ c. numbers_below (length names.now) (cell_numbers c) ≡ true) }
 {
     let name = arg_of(names, head, 0);

@@ -30,7 +30,8 @@ fn push_cell(
     requires empty { IsTrue (has_text [] names.now) }
     requires below { numbers_below (length names.now) (flat_map cell_numbers out.old) ≡ true }
     ensures below { OnOk result (numbers_below (length names.now) (flat_map cell_numbers out.new) ≡ true) }
-    ensures same { OnOk result (map (cell_view names.now) out.new ≡ map (cell_view names.now) out.old ++ cell_at (map (group_view names.now) all.now) place (group_view names.now head.now) (map (group_view names.now) more.now)) }
+    ensures same { OnOk result (map (cell_view names.now) out.new ≡ map (cell_view names.now) out.old
+        ++ cell_at (map (group_view names.now) all.now) place (group_view names.now head.now) (map (group_view names.now) more.now)) }
 {
     if is_cell(names, all, head) {
         let groups = inside_of(names, place, more);

@@ -221,7 +221,8 @@ fn late_reason(
     pins: &[NameId],
 ) -> Result<Option<Reason>, NoMemory>
     requires { Knows names.now frame.now }
-    ensures { IfOk result (λ r. r ≡ late_reason place (frame_view names.now frame.now) (group_view names.now head.now) (map (group_view names.now) groups.now) (name_texts names.now pins.now)) }
+    ensures { IfOk result (λ r. r
+        ≡ late_reason place (frame_view names.now frame.now) (group_view names.now head.now) (map (group_view names.now) groups.now) (name_texts names.now pins.now)) }
 {
     if !all_read(alloc, names, place, frame, groups)? {
         return Ok(Some(Reason::Function));
@@ -256,7 +257,8 @@ fn middle_reason(
     pins: &[NameId],
 ) -> Result<Option<Reason>, NoMemory>
     requires { Knows names.now frame.now }
-    ensures { IfOk result (λ r. r ≡ middle_reason place (frame_view names.now frame.now) (group_view names.now head.now) (map (group_view names.now) groups.now) (name_texts names.now pins.now)) }
+    ensures { IfOk result (λ r. r
+        ≡ middle_reason place (frame_view names.now frame.now) (group_view names.now head.now) (map (group_view names.now) groups.now) (name_texts names.now pins.now)) }
 {
     if has_bad_pg(alloc, names, place, head, groups, frame.pgs.as_slice())? {
         return Ok(Some(Reason::Pg));
@@ -283,7 +285,8 @@ fn reason_by(
 ) -> Result<Option<Reason>, NoMemory>
     requires empty { IsTrue (has_text [] names.now) }
     requires knows { Knows names.now frame.now }
-    ensures { IfOk result (λ r. r ≡ reason_by place (frame_view names.now frame.now) (group_view names.now head.now) (map (group_view names.now) groups.now) (name_texts names.now pins.now) (name_texts names.now all.now)) }
+    ensures { IfOk result (λ r. r
+        ≡ reason_by place (frame_view names.now frame.now) (group_view names.now head.now) (map (group_view names.now) groups.now) (name_texts names.now pins.now) (name_texts names.now all.now)) }
 {
     if has_bad_name(names, head, all) {
         return Ok(Some(Reason::Name));
@@ -306,7 +309,8 @@ pub(crate) fn reason_of(
 ) -> Result<Option<Reason>, NoMemory>
     requires empty { IsTrue (has_text [] names.now) }
     requires knows { Knows names.now frame.now }
-    ensures { IfOk result (λ r. r ≡ reason_of place (frame_view names.now frame.now) (group_view names.now head.now) (map (group_view names.now) groups.now) (map (pin_view names.now) pins.now)) }
+    ensures { IfOk result (λ r. r
+        ≡ reason_of place (frame_view names.now frame.now) (group_view names.now head.now) (map (group_view names.now) groups.now) (map (pin_view names.now) pins.now)) }
 {
     let pin_ids = pin_ids(alloc, pins)?;
     let all_ids = all_ids(alloc, pins, &frame.pgs)?;

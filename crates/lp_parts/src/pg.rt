@@ -119,7 +119,8 @@ fn push_pg(
     requires signals { IsTrue (are_known names.now signals.now) }
     requires pgs { IsTrue (are_known names.now pgs.now) }
     requires below { numbers_below (length names.now) (flat_map pg_pin_numbers out.old) ≡ true }
-    ensures same { OnOk result (map (pg_pin_view names.now) out.new ≡ map (pg_pin_view names.now) out.old ++ pgs_at place signals.now pgs.now (group_view names.now group.now)) }
+    ensures same { OnOk result (map (pg_pin_view names.now) out.new ≡ map (pg_pin_view names.now) out.old
+        ++ pgs_at place signals.now pgs.now (group_view names.now group.now)) }
     ensures below { OnOk result (numbers_below (length names.now) (flat_map pg_pin_numbers out.new) ≡ true) }
 {
     if is_part(names, place, group, "pg_pin") {

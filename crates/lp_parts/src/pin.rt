@@ -249,7 +249,8 @@ fn push_args(
     requires knows { Knows names.now frame.now }
     requires below { numbers_below (length names.now) (flat_map pin_numbers out.old) ≡ true }
     ensures below { OnOk result (numbers_below (length names.now) (flat_map pin_numbers out.new) ≡ true) }
-    ensures same { OnOk result (map (pin_view names.now) out.new ≡ map (pin_view names.now) out.old ++ map (pin_of (frame_view names.now frame.now) (group_view names.now group.now)) (name_texts names.now group.now.args)) }
+    ensures same { OnOk result (map (pin_view names.now) out.new ≡ map (pin_view names.now) out.old
+        ++ map (pin_of (frame_view names.now frame.now) (group_view names.now group.now)) (name_texts names.now group.now.args)) }
 {
     for name in group.args.as_slice() {
         out.push(pin_of(alloc, names, frame, group, *name)?)?;
@@ -271,7 +272,8 @@ fn push_pins(
     requires knows { Knows names.now frame.now }
     requires below { numbers_below (length names.now) (flat_map pin_numbers out.old) ≡ true }
     ensures below { OnOk result (numbers_below (length names.now) (flat_map pin_numbers out.new) ≡ true) }
-    ensures same { OnOk result (map (pin_view names.now) out.new ≡ map (pin_view names.now) out.old ++ pins_at place (frame_view names.now frame.now) (group_view names.now group.now)) }
+    ensures same { OnOk result (map (pin_view names.now) out.new ≡ map (pin_view names.now) out.old
+        ++ pins_at place (frame_view names.now frame.now) (group_view names.now group.now)) }
 {
     if is_part(names, place, group, "pin") {
         push_args(alloc, names, frame, out, group)?;

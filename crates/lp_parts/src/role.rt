@@ -100,7 +100,8 @@ fn retention_of(
     groups: &[Group],
 ) -> Result<Option<Expr>, NoMemory>
     requires known { IsTrue (are_known names.now pgs.now) }
-    ensures same { IfOk result (λ o. option_map (expr_view names.now) o ≡ retention_of place pgs.now (group_view names.now head.now) (map (group_view names.now) groups.now)) }
+    ensures same { IfOk result (λ o. option_map (expr_view names.now) o
+        ≡ retention_of place pgs.now (group_view names.now head.now) (map (group_view names.now) groups.now)) }
     ensures below { IfOk result (λ o. numbers_below (length names.now) (option_numbers expr_numbers o) ≡ true) }
 {
     if !is_retention(names, head) {

@@ -161,7 +161,8 @@ fn state_by(
 ) -> Result<StateGroup, NoMemory>
     requires empty { IsTrue (has_text [] names.now) }
     requires knows { Knows names.now frame.now }
-    ensures same { IfOk result (λ s. state_view names.now s ≡ state_by place (frame_view names.now frame.now) (map (group_view names.now) groups.now) (group_view names.now group.now)) }
+    ensures same { IfOk result (λ s. state_view names.now s
+        ≡ state_by place (frame_view names.now frame.now) (map (group_view names.now) groups.now) (group_view names.now group.now)) }
     ensures below { IfOk result (λ s. numbers_below (length names.now) (state_numbers s) ≡ true) }
 {
     let signals = &frame.signals;

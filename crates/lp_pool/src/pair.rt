@@ -16,7 +16,8 @@ pub fn lend_pair<T>(row: &mut [Pool<T>], a: Key<T>, b: Key<T>) -> (&mut T, &mut 
     requires live { (a.place < length (sole row.old).items) × (b.place < length (sole row.old).items) }
     requires distinct { a.place ≢ b.place }
     ensures* lends { sem 𝓛 (lends_pair T.row row.entry a.place b.place result) }
-    ensures values { (result.0.now ≡ slice_index_or (sole row.old).items a.place result.0.now) × (result.1.now ≡ slice_index_or (sole row.old).items b.place result.1.now) }
+    ensures values { (result.0.now ≡ slice_index_or (sole row.old).items a.place result.0.now)
+        × (result.1.now ≡ slice_index_or (sole row.old).items b.place result.1.now) }
 {
     let first = row[0].base_of(a);
     let second = row[0].base_of(b);
@@ -30,7 +31,8 @@ fn lend_two<T>(
     second: Base<T>,
     b: usize,
 ) -> (&mut T, &mut T)
-    requires { (length row.old ≡ 1) × (a < length (sole row.old).items) × (b < length (sole row.old).items) × (a ≢ b) × IsSpot (sole row.old).spots a first.ptr × IsSpot (sole row.old).spots b second.ptr }
+    requires { (length row.old ≡ 1) × (a < length (sole row.old).items) × (b < length (sole row.old).items) × (a ≢ b)
+        × IsSpot (sole row.old).spots a first.ptr × IsSpot (sole row.old).spots b second.ptr }
     ensures* lends { sem 𝓛 (lends_pair T.row row.entry a b result) }
     ensures values { (result.0.now ≡ slice_index_or (sole row.old).items a result.0.now) × (result.1.now ≡ slice_index_or (sole row.old).items b result.1.now) }
 {
