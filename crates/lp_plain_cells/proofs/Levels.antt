@@ -1,9 +1,7 @@
 -- Functions of known levels.
-use Rattle.std.proofs.Common.{◌≡◌, ℕ, Bool, true, false, not, ◌&&◌, cond, List, [], ◌∷◌, ◌++◌, map, refl, ◌∙◌, ap}
+use Rattle.std.proofs.Common.{◌≡◌, ℕ, Bool, true, false, not, List, [], ◌∷◌, ◌++◌, map, refl, ◌∙◌, ap}
 use mathlib.Core.Bool.{beq}
-use Rattle.lp_text.specs.Texts.{text_at}
 use Rattle.lp_text.specs.declared.names.NameId.{NameId}
-use Rattle.lp_tern.specs.declared.tern.Tern.{Tern}
 use Rattle.lp_tern.specs.Values.{agreed}
 use Rattle.lp_expr.specs.Formula.{Formula, truth, completions, value_of}
 use Rattle.lp_expr.specs.Places.{is_one}
