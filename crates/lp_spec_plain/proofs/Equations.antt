@@ -5,7 +5,7 @@ use Rattle.std.proofs.lemmas.Bool.{false≢true}
 use Rattle.lp_tern.specs.declared.tern.Tern.TheVariants.{X}
 use Rattle.lp_model.specs.LibraryView.{ExprView, PinView, CellView}
 use Rattle.lp_spec_design.specs.Keys.{Name, Path, Node, Inner, Outer, Fixed, Way, Source, CellPin, SwitchedPin, Environment, From}
-use Rattle.lp_spec_design.specs.Netlists.{first, cell_at}
+use Rattle.lp_spec_design.specs.Netlists.{cell_at}
 use Rattle.lp_spec_design.specs.Nodes.{fuel_of}
 use Rattle.lp_spec_design.specs.Graph.{source_of, trail}
 use Rattle.lp_spec_design.specs.Intents.{SetNumber, SupplySet}
@@ -13,7 +13,7 @@ use Rattle.lp_spec_design.specs.Domains.{start_rail, source_supply}
 use Rattle.lp_spec_design.specs.Chains.{rail_along, rail_after}
 use Rattle.lp_spec_design.specs.Settled.{Assignment, Design, Event, Registers, at, state_of, is_on, both_on, set_at, set_on, sets_under, is_under, kept, through, pin_named, output_by, output_of, node_equation, pins_at, rail_of}
 use Rattle.lp_spec_design.specs.Runs.{shown}
-use Rattle.lp_spec_pins.specs.Pins.{FromTop, Powered, PinAssignment, PinEvent, pair_on, signal_at, state_from, read_by, is_up, is_data, is_unfit, is_unfit_at, output_at, cell_output_at, top_input, signal_equation, pins_read}
+use Rattle.lp_spec_pins.specs.Pins.{FromTop, Powered, PinAssignment, PinEvent, pair_on, signal_at, state_from, read_by, is_up, is_data, is_unfit, is_unfit_at, output_at, cell_output_at, top_input, signal_equation, pins_read, input_for}
 use Rattle.lp_spec_pins.specs.Runs.{shown_by_pins}
 use Rattle.lp_spec_plain.specs.Cells.{follows}
 use Rattle.lp_spec_plain.specs.Designs.{supply_at, driver_of, receiver_of, IsPlain}
@@ -43,7 +43,7 @@ module _ (d : Design) (one : SupplySet) (plain : IsPlain d one) (w : Powered) (o
 
     module _ (regs : Registers) (p : Path) (x q : Name) where
       in_type : (c : CellView) → cell_at d.structure p x ≡ Some c → (v : PinView) → is_unfit w B p x c v ≡ false
-      in_type c cell v = ap (λ f. is_unfit_at w B p x c v f (first is_data c.pins)) (promises c (plain.cells_plain p x c cell)).no_shifter
+      in_type c cell v = ap (λ f. is_unfit_at w B p x c v f (input_for is_data c)) (promises c (plain.cells_plain p x c cell)).no_shifter
 
       function_out : (c : CellView) → cell_at d.structure p x ≡ Some c → (v : PinView) → pin_named c q ≡ Some v → (f : Option ExprView) → v.function ≡ f
           → kept (is_up w B p x c v.power_down && not (is_unfit w B p x c v)) (output_by c (pins_read w B p x c) (regs p x) f) ≡ kept (set_on d.network A (supply_at d p)) (output_by c (pins_at d.structure A p x) (regs p x) f)
