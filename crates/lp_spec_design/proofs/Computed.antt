@@ -19,7 +19,7 @@ use Rattle.lp_tern.specs.declared.tern.Tern.TheVariants.{Zero, One, X}
 use Rattle.lp_tern.specs.declared.supply.SupplyState.{SupplyState}
 use Rattle.lp_tern.specs.declared.supply.SupplyState.TheVariants.{On, Off, Unknown}
 use Rattle.lp_spec_design.specs.Settled.{Key, At, Of, Design, Event, Registers, output, computed}
-use Rattle.lp_spec_design.specs.Samples.{plain, switched_from_inside, read_inside, fed_through, wide, wide_output, by_supply, with_strategies, isolation, shifting, network, switched, switched_network, volts, port, top}
+use Rattle.lp_spec_design.proofs.Samples.{plain, switched_from_inside, read_inside, fed_through, wide, wide_output, by_supply, with_strategies, isolation, shifting, network, switched, switched_network, volts, port, top}
 use Rattle.lp_spec_settling.specs.Settling.{has, IsOrder, Reaches}
 use Rattle.lp_spec_settling.proofs.Laws.{order-no_loop}
 use Rattle.lp_spec_design.specs.Reads.{keys, reads}

@@ -9,3 +9,4 @@ pub mod Members
 pub mod WaysBack
 pub mod Looped
 pub mod Sources
+pub mod Samples

@@ -10,7 +10,7 @@ use Rattle.lp_spec_design.specs.Nodes.{computing}
 use Rattle.lp_spec_design.specs.Intents.{Intent, AtInstance, AtCell}
 use Rattle.lp_spec_design.specs.Settled.{Assignment, Design, Event, output, computed}
 use Rattle.lp_spec_design.specs.Registers.{States, retention_winner, is_register, is_retained_register, states_after}
-use Rattle.lp_spec_design.specs.Samples.{registered, to, with_strategies, isolation, retaining, network, volts}
+use Rattle.lp_spec_design.proofs.Samples.{registered, to, with_strategies, isolation, retaining, network, volts}
 use Rattle.lp_model.specs.NetlistView.{ConstBit, ByName, InstanceView, ModuleView}
 use Rattle.lp_spec_design.specs.Netlists.{Structure}
 

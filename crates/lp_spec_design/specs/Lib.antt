@@ -6,7 +6,6 @@ pub mod Intents
 pub mod Keys
 pub mod Netlists
 pub mod Nodes
-pub mod Samples
 pub mod Settled
 pub mod Winners
 pub mod Reads

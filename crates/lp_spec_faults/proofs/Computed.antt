@@ -15,12 +15,12 @@ use Rattle.lp_spec_design.specs.Instances.{Placed}
 use Rattle.lp_spec_design.specs.Nodes.{computing}
 use Rattle.lp_spec_design.specs.Graph.{Reader, InputPin}
 use Rattle.lp_spec_design.specs.Intents.{Element, AtInstance, AtPort, AtBit, BySet, Strategy, Intent}
-use Rattle.lp_spec_design.specs.Samples.{never, port, top, core, with_strategies, isolation, shifting, by_supply, switched_from_inside}
-use Rattle.lp_spec_network.specs.Samples.{origin}
-use Rattle.lp_spec_fit.specs.Samples.{buffer}
+use Rattle.lp_spec_design.proofs.Samples.{never, port, top, core, with_strategies, isolation, shifting, by_supply, switched_from_inside}
+use Rattle.lp_spec_network.proofs.Samples.{origin}
+use Rattle.lp_spec_fit.proofs.Samples.{buffer}
 use Rattle.lp_spec_realises.specs.Projects.{Project}
 use Rattle.lp_spec_realises.specs.Implements.{Lists}
-use Rattle.lp_spec_realises.specs.Samples.{inverter, cells, supplies, project, by_the_block}
+use Rattle.lp_spec_realises.proofs.Samples.{inverter, cells, supplies, project, by_the_block}
 use Rattle.lp_spec_faults.specs.Lines.{first_of}
 use Rattle.lp_spec_faults.specs.Domains.{no_domain, no_primary}
 use Rattle.lp_spec_faults.specs.Strategies.{split_sinks, shift_target, SideAt, StrategyAt, Where, OnSide, OnRegister, not_boundary, tied, no_place, no_supply, two_shifters, location_order, shift_supply}

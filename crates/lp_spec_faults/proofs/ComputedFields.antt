@@ -10,12 +10,12 @@ use Rattle.lp_model.specs.NetlistView.{NetBit, ConstBit, ByName, ByPosition, Con
 use Rattle.lp_spec_design.specs.Keys.{Path, Inner}
 use Rattle.lp_spec_design.specs.Nodes.{computing}
 use Rattle.lp_spec_design.specs.Intents.{AtInstance, AtPort, AtBit, Strategy, Intent}
-use Rattle.lp_spec_design.specs.Samples.{plain, top, core, to, registered, with_strategies, isolation, shifting, by_supply, retaining}
-use Rattle.lp_spec_network.specs.Samples.{origin}
+use Rattle.lp_spec_design.proofs.Samples.{plain, top, core, to, registered, with_strategies, isolation, shifting, by_supply, retaining}
+use Rattle.lp_spec_network.proofs.Samples.{origin}
 use Rattle.lp_spec_realises.specs.Projects.{Project}
 use Rattle.lp_spec_realises.specs.Implements.{Lists}
-use Rattle.lp_spec_realises.specs.Samples.{inverter, supplies, project, by_the_block}
-use Rattle.lp_spec_fit.specs.Samples.{buffer}
+use Rattle.lp_spec_realises.proofs.Samples.{inverter, supplies, project, by_the_block}
+use Rattle.lp_spec_fit.proofs.Samples.{buffer}
 use Rattle.lp_spec_faults.specs.Lines.{first_of}
 use Rattle.lp_spec_faults.specs.Strategies.{SideAt, Where, OnSide, OnRegister, not_boundary, tied, tied_with, winner_at, two_shifters, location_order, shift_supply}
 use Rattle.lp_spec_faults.specs.Order.{in_command_order}

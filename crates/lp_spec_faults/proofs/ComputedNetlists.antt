@@ -9,9 +9,9 @@ use Rattle.lp_model.specs.NetlistView.{ByName, InstanceView, ModuleView}
 use Rattle.lp_model.specs.LibraryView.{CellView}
 use Rattle.lp_spec_design.specs.Keys.{Name}
 use Rattle.lp_spec_design.specs.Netlists.{Structure, upward}
-use Rattle.lp_spec_design.specs.Samples.{port, top, core, plain}
-use Rattle.lp_spec_fit.specs.Samples.{pg, plain_pgs, buffer, clamp, clamp_with_backup, shifter, retention_register, header}
-use Rattle.lp_spec_realises.specs.Samples.{inverter}
+use Rattle.lp_spec_design.proofs.Samples.{port, top, core, plain}
+use Rattle.lp_spec_fit.proofs.Samples.{pg, plain_pgs, buffer, clamp, clamp_with_backup, shifter, retention_register, header}
+use Rattle.lp_spec_realises.proofs.Samples.{inverter}
 use Rattle.lp_spec_faults.specs.Lines.{first_of}
 use Rattle.lp_spec_faults.specs.Modules.{OfModule, OfPart, reserved_name, InstanceAt, unknown_module, recursive, top_count, netlist_limits, unfit_cell, word_at}
 

@@ -5,7 +5,7 @@ use Rattle.lp_model.specs.declared.intent.DeclaredState.{DeclaredState}
 use Rattle.lp_model.specs.declared.intent.DeclaredState.TheVariants.{On, Off}
 use Rattle.lp_model.specs.declared.intent.RowState.{RowState}
 use Rattle.lp_model.specs.declared.intent.RowState.TheVariants as listed
-use Rattle.lp_spec_network.specs.Samples.{supplies}
+use Rattle.lp_spec_network.proofs.Samples.{supplies}
 use Rattle.lp_spec_faults.specs.Lines.{first_of}
 use Rattle.lp_spec_faults.specs.StateTable.{Entry, OfRow, OfSwitch, StateTable, state_mismatch}
 

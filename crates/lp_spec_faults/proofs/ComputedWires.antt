@@ -6,9 +6,9 @@ use Rattle.lp_model.specs.NetlistView.{BitView, NetBit, SelectBit, ConstBit, Con
 use Rattle.lp_spec_design.specs.Keys.{Name, Inner}
 use Rattle.lp_spec_design.specs.Netlists.{Structure}
 use Rattle.lp_spec_design.specs.Nodes.{computing}
-use Rattle.lp_spec_design.specs.Samples.{port, to, top, core, plain, wide, fed_through}
-use Rattle.lp_spec_fit.specs.Samples.{buffer}
-use Rattle.lp_spec_realises.specs.Samples.{inverter}
+use Rattle.lp_spec_design.proofs.Samples.{port, to, top, core, plain, wide, fed_through}
+use Rattle.lp_spec_fit.proofs.Samples.{buffer}
+use Rattle.lp_spec_realises.proofs.Samples.{inverter}
 use Rattle.lp_spec_faults.specs.Lines.{Line, first_of}
 use Rattle.lp_spec_faults.specs.Wires.{ConnectionAt, pin_field, unknown_pin, already_powered, width, join_fields, two_drivers, wire_loop}
 

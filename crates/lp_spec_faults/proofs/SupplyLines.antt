@@ -7,13 +7,13 @@ use Rattle.lp_model.specs.declared.intent.DeclaredState.TheVariants.{On, Off}
 use Rattle.lp_model.specs.declared.supply.OriginKind.TheVariants.{Port}
 use Rattle.lp_model.specs.declared.supply.Supplies as model
 use Rattle.lp_spec_design.specs.Intents.{Intent}
-use Rattle.lp_spec_design.specs.Samples.{with_strategies}
-use Rattle.lp_spec_network.specs.Samples.{origin}
+use Rattle.lp_spec_design.proofs.Samples.{with_strategies}
+use Rattle.lp_spec_network.proofs.Samples.{origin}
 use Rattle.lp_spec_origins.specs.Commands.{Command, NetAt, MakesPort, MakesNet, MakesSet, MakesStrategy, MakesRow}
 use Rattle.lp_spec_origins.specs.Sets.{SupplySet}
 use Rattle.lp_spec_origins.specs.Used.{sets_of}
-use Rattle.lp_spec_origins.specs.Samples.{in_top, set_between, three, doubled, circular}
-use Rattle.lp_spec_realises.specs.Samples.{supplies}
+use Rattle.lp_spec_origins.proofs.Samples.{in_top, set_between, three, doubled, circular}
+use Rattle.lp_spec_realises.proofs.Samples.{supplies}
 use Rattle.lp_spec_faults.specs.Lines.{first_of}
 use Rattle.lp_spec_faults.specs.Supplies.{intent_limits, Asked, SetMade, SupplyMade, undriven, two_sources, supply_loop, ground_mismatch, first_used, ground_level, no_states}
 

@@ -9,12 +9,12 @@ use Rattle.lp_model.specs.declared.library.RetClass.TheVariants.{Both}
 use Rattle.lp_model.specs.declared.library.ShifterKind.TheVariants as shifters
 use Rattle.lp_model.specs.LibraryView.{ExprView, PinView, CellView}
 use Rattle.lp_spec_design.specs.Graph.{numbered}
-use Rattle.lp_spec_design.specs.Samples.{one_name}
+use Rattle.lp_spec_design.proofs.Samples.{one_name}
 use Rattle.lp_spec_fit.specs.Joins.{Joins, source_joins, clamp_joins, register_joins, shifter_joins, switch_joins}
 use Rattle.lp_spec_fit.specs.PowerDown.{is_unfit_power}
 use Rattle.lp_spec_fit.specs.Fits.{fits_clamp, fits_shifter, fits_register, fits_switch}
 use Rattle.lp_spec_fit.specs.Choice.{clamp_choice, shifter_choice, register_choice, switch_choice}
-use Rattle.lp_spec_fit.specs.Samples.{pg, input, output, clamp, clamp_with_backup, shifter, register, retention_register, header, and_with_wells, buffer, cells, set_of, clamp_by, shift_between, retained_at, on_high, on_low, plain_pgs}
+use Rattle.lp_spec_fit.proofs.Samples.{pg, input, output, clamp, clamp_with_backup, shifter, register, retention_register, header, and_with_wells, buffer, cells, set_of, clamp_by, shift_between, retained_at, on_high, on_low, plain_pgs}
 
 -- ---- clamps
 

@@ -1,3 +1,4 @@
 pub mod Chosen
 mod Computed
 pub mod Equal
+pub mod Samples

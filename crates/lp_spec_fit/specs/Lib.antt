@@ -4,5 +4,4 @@ pub mod Fits
 pub mod Joins
 pub mod Needs
 pub mod PowerDown
-pub mod Samples
 pub mod Laws

@@ -9,7 +9,7 @@ use Rattle.lp_spec_design.specs.Keys.{Inner}
 use Rattle.lp_spec_design.specs.Intents.{Network, FromPort, FromSwitch}
 use Rattle.lp_spec_network.specs.Views.{first_row, rows_of, lower_sets, leaking_sets, network_view}
 use Rattle.lp_spec_network.specs.Pairs.{pairs_of}
-use Rattle.lp_spec_network.specs.Samples.{supplies, untabled}
+use Rattle.lp_spec_network.proofs.Samples.{supplies, untabled}
 
 -- set 1 is always lower, by 0.2 and no more; a set that the switch feeds has the voltage of set 0
 abbrev lower_than : Supplies → ℕ → List Bool

@@ -1,3 +1,4 @@
 mod Computed
 pub mod FirstRow
 pub mod SomeRow
+pub mod Samples

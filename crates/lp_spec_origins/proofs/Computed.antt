@@ -10,7 +10,7 @@ use Rattle.lp_tern.specs.declared.supply.SupplyState.TheVariants as state
 use Rattle.lp_model.specs.declared.intent.Applies.TheVariants.{Outputs}
 use Rattle.lp_spec_design.specs.Keys.{Inner}
 use Rattle.lp_spec_design.specs.Intents.{Intent, FromPort, FromSwitch, BySet, ByDomain}
-use Rattle.lp_spec_design.specs.Samples.{with_strategies, isolation}
+use Rattle.lp_spec_design.proofs.Samples.{with_strategies, isolation}
 use Rattle.lp_model.specs.declared.supply.OriginKind.{OriginKind}
 use Rattle.lp_model.specs.declared.supply.Origin as model
 use Rattle.lp_spec_origins.specs.Commands.{Command, MakesPort, Supply, PortAt, NetAt}
@@ -18,7 +18,7 @@ use Rattle.lp_spec_origins.specs.Groups.{group_of, is_closed}
 use Rattle.lp_spec_origins.specs.Origins.{sources, origin_of, origins_of, root_within, origin_view}
 use Rattle.lp_spec_origins.specs.Sets.{SupplySet, set_origins, same_set_origins}
 use Rattle.lp_spec_origins.specs.Used.{is_used_set, sets_of, is_used}
-use Rattle.lp_spec_origins.specs.Samples.{in_top, in_block, set_between, three, switched, doubled, circular}
+use Rattle.lp_spec_origins.proofs.Samples.{in_top, in_block, set_between, three, switched, doubled, circular}
 
 abbrev net : List ℕ → Supply
 net n = NetAt (in_top n)

@@ -2,3 +2,4 @@ mod Computed
 pub mod JoinedLaws
 pub mod OneOrigin
 pub mod WholeGroups
+pub mod Samples

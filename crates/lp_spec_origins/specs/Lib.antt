@@ -1,7 +1,6 @@
 pub mod Commands
 pub mod Groups
 pub mod Origins
-pub mod Samples
 pub mod Sets
 pub mod Used
 pub mod Laws

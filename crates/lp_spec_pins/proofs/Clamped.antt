@@ -17,7 +17,7 @@ use Rattle.lp_spec_design.specs.Nodes.{computing}
 use Rattle.lp_spec_design.specs.Settled.{Registers}
 use Rattle.lp_spec_pins.specs.Pins.{FromTop, is_zero_for, SupplyNodes, Surroundings, Powered, PinEvent, output_by_pins, computed_by_pins}
 use Rattle.lp_spec_pins.specs.Supplied.{is_supplied}
-use Rattle.lp_spec_design.specs.Samples.{one_name, port, to, cell, pin}
+use Rattle.lp_spec_design.proofs.Samples.{one_name, port, to, cell, pin}
 
 -- ---- cells with a power pin VDD and a ground pin VSS
 

@@ -20,7 +20,7 @@ use Rattle.lp_spec_design.specs.Nodes.{computing}
 use Rattle.lp_spec_pins.specs.Pins.{Surroundings, Powered, PinAssignment, PinEvent, output_by_pins, computed_by_pins}
 use Rattle.lp_spec_design.specs.Registers.{States}
 use Rattle.lp_spec_pins.specs.Registers.{states_after_by_pins}
-use Rattle.lp_spec_design.specs.Samples.{port, cell, pin, never, one_name}
+use Rattle.lp_spec_design.proofs.Samples.{port, cell, pin, never, one_name}
 use Rattle.lp_spec_pins.proofs.Clamped.{down, input, supplied, cells, joined, top_supply}
 
 -- ---- cells

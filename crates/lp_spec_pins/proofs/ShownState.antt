@@ -13,7 +13,7 @@ use Rattle.lp_spec_design.specs.Keys.{Name, Inner}
 use Rattle.lp_spec_design.specs.Nodes.{computing}
 use Rattle.lp_spec_design.specs.Settled.{At, Design, Event, Registers, output, computed}
 use Rattle.lp_spec_design.specs.Reads as of_design
-use Rattle.lp_spec_design.specs.Samples.{port, cell, pin, never, one_name, network, volts, with_strategies}
+use Rattle.lp_spec_design.proofs.Samples.{port, cell, pin, never, one_name, network, volts, with_strategies}
 use Rattle.lp_spec_pins.specs.Pins.{Powered, Signal, output_by_pins, computed_by_pins}
 use Rattle.lp_spec_pins.specs.Reads as of_netlist
 use Rattle.lp_spec_pins.proofs.Clamped.{down, input, supplied, joined, around, event}

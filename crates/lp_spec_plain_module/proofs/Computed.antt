@@ -20,7 +20,7 @@ use Rattle.lp_spec_plain.specs.Alike.{at_ports}
 use Rattle.lp_spec_plain_module.specs.Designs.{Flat, design_of}
 use Rattle.lp_spec_plain_module.specs.Netlists.{powered, netlist_of, origin_of}
 use Rattle.lp_spec_plain_module.specs.Tests.{is_flat}
-use Rattle.lp_spec_plain_module.specs.Samples as sample
+use Rattle.lp_spec_plain_module.proofs.Samples as sample
 
 accepted : is_flat sample.design ≡ true
 unfolding computing

@@ -5,3 +5,4 @@ pub mod Lists
 pub mod Plain
 pub mod Sources
 pub mod Supplies
+pub mod Samples

@@ -1,4 +1,3 @@
 pub mod Designs
 pub mod Netlists
-pub mod Samples
 pub mod Tests

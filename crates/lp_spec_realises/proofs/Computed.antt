@@ -12,11 +12,11 @@ use Rattle.lp_spec_design.specs.Keys.{Name, Inner}
 use Rattle.lp_spec_design.specs.Netlists.{Structure, cell_at}
 use Rattle.lp_spec_design.specs.Nodes.{computing, fuel_of}
 use Rattle.lp_spec_design.specs.Intents.{Intent, AtInstance}
-use Rattle.lp_spec_design.specs.Samples.{plain, wide, port, with_strategies, isolation}
-use Rattle.lp_spec_design.specs.Samples as sample
+use Rattle.lp_spec_design.proofs.Samples.{plain, wide, port, with_strategies, isolation}
+use Rattle.lp_spec_design.proofs.Samples as sample
 use Rattle.lp_spec_pins.proofs.Clamped.{outer, inner, joined}
-use Rattle.lp_spec_fit.specs.Samples.{buffer, clamp}
-use Rattle.lp_spec_realises.specs.Samples.{inverter, cells, supplies, project, by_the_block}
+use Rattle.lp_spec_fit.proofs.Samples.{buffer, clamp}
+use Rattle.lp_spec_realises.proofs.Samples.{inverter, cells, supplies, project, by_the_block}
 use Rattle.lp_spec_realises.specs.Projects.{Project}
 use Rattle.lp_spec_realises.specs.ProjectNetlists.{netlist_of}
 use Rattle.lp_spec_realises.specs.Operators.{all_operators, Placement}

@@ -17,11 +17,11 @@ use Rattle.lp_spec_design.specs.Graph.{TopOutput}
 use Rattle.lp_spec_pins.specs.Pins.{Powered, output_by_pins, computed_by_pins}
 use Rattle.lp_spec_pins.specs.Supplied.{is_supplied}
 use Rattle.lp_spec_pins.proofs.Clamped.{inner}
-use Rattle.lp_spec_network.specs.Samples as table
+use Rattle.lp_spec_network.proofs.Samples as table
 use Rattle.lp_spec_realises.specs.Projects.{Project, design_of}
 use Rattle.lp_spec_realises.specs.ProjectNetlists.{netlist_of}
 use Rattle.lp_spec_realises.specs.Surroundings.{powered_of, event_at_pins, IsWithinRows}
-use Rattle.lp_spec_realises.specs.Samples.{project, by_the_block}
+use Rattle.lp_spec_realises.proofs.Samples.{project, by_the_block}
 use Rattle.lp_spec_realises.proofs.Computed.{written, in_block, netlist, straight, ports_as}
 
 -- the top's supply is on, the block's is given, and so is the ground

@@ -4,3 +4,4 @@ mod Judged
 pub mod Netlists
 pub mod Places
 pub mod Ports
+pub mod Samples

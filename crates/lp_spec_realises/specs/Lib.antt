@@ -5,6 +5,5 @@ pub mod Operators
 pub mod ProjectNetlists
 pub mod Projects
 pub mod Realises
-pub mod Samples
 pub mod Surroundings
 pub mod Tops

@@ -5,9 +5,9 @@ use Rattle.lp_model.specs.declared.fault.netlist.NetlistLimit.TheVariants as lim
 use Rattle.lp_model.specs.declared.netlist.Direction.TheVariants.{Output}
 use Rattle.lp_model.specs.NetlistView.{NetBit, SelectBit, ConstBit, ModuleView}
 use Rattle.lp_spec_design.specs.Nodes.{computing}
-use Rattle.lp_spec_design.specs.Samples.{port}
+use Rattle.lp_spec_design.proofs.Samples.{port}
 use Rattle.lp_spec_pins.proofs.Clamped.{joined, outer, inner}
-use Rattle.lp_spec_written.specs.Samples.{any_cell, bare, clamped, read_twice, lower_block, clamped_outside, clamped_inside, fixed_input, wide_outside, wide_inside, higher_block, two_levels, fed, twins, top_output}
+use Rattle.lp_spec_written.proofs.Samples.{any_cell, bare, clamped, read_twice, lower_block, clamped_outside, clamped_inside, fixed_input, wide_outside, wide_inside, higher_block, two_levels, fed, twins, top_output}
 use Rattle.lp_spec_written.specs.Supplies.{wire, joined_to}
 use Rattle.lp_spec_faults.specs.Lines.{first_of}
 use Rattle.lp_spec_written.specs.Written.{written}

@@ -4,7 +4,7 @@ use Rattle.std.specs.Prelude.{codes}
 use Rattle.lp_model.specs.NetlistView.{NetBit, ModuleView}
 use Rattle.lp_spec_design.specs.Nodes.{computing}
 use Rattle.lp_spec_pins.proofs.Clamped.{joined}
-use Rattle.lp_spec_written.specs.Samples.{any_cell, control_from_inside, control_renamed, control_beside, control_below, control_first_above, control_across, retained, retained_by_one}
+use Rattle.lp_spec_written.proofs.Samples.{any_cell, control_from_inside, control_renamed, control_beside, control_below, control_first_above, control_across, retained, retained_by_one}
 use Rattle.lp_spec_written.specs.Supplies.{wire}
 use Rattle.lp_spec_written.specs.Written.{written}
 use Rattle.lp_spec_written.proofs.Digits.{closed}

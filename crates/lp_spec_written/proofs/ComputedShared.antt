@@ -4,14 +4,14 @@ use Rattle.std.specs.Prelude.{codes}
 use Rattle.lp_model.specs.NetlistView.{InstanceView, ModuleView}
 use Rattle.lp_spec_design.specs.Keys.{Name}
 use Rattle.lp_spec_design.specs.Nodes.{computing}
-use Rattle.lp_spec_design.specs.Samples.{with_strategies}
+use Rattle.lp_spec_design.proofs.Samples.{with_strategies}
 use Rattle.lp_spec_realises.specs.Projects.{Project}
 use Rattle.lp_spec_pins.proofs.Clamped.{joined}
 use Rattle.lp_spec_written.specs.Supplies.{wire, joined_to}
 use Rattle.lp_spec_written.specs.Shared.{shared}
 use Rattle.lp_spec_written.specs.Written.{written}
 use Rattle.lp_spec_written.specs.Limits.{added_names, names_added}
-use Rattle.lp_spec_written.specs.Samples.{any_cell, twins}
+use Rattle.lp_spec_written.proofs.Samples.{any_cell, twins}
 use Rattle.lp_spec_written.proofs.Computed.{clamped_modules, twins_modules}
 use Rattle.lp_spec_written.proofs.Digits.{closed}
 use Rattle.lp_spec_written.proofs.Shapes.{input, output, instance}

@@ -3,9 +3,9 @@ use Rattle.std.proofs.Common.{◌≡◌, List, [], ◌∷◌, refl}
 use Rattle.std.specs.Prelude.{codes}
 use Rattle.lp_model.specs.NetlistView.{ModuleView}
 use Rattle.lp_spec_design.specs.Nodes.{computing}
-use Rattle.lp_spec_design.specs.Samples.{with_strategies}
+use Rattle.lp_spec_design.proofs.Samples.{with_strategies}
 use Rattle.lp_spec_pins.proofs.Clamped.{joined}
-use Rattle.lp_spec_written.specs.Samples.{any_cell, switched, nested, in_the_block, exchanged}
+use Rattle.lp_spec_written.proofs.Samples.{any_cell, switched, nested, in_the_block, exchanged}
 use Rattle.lp_spec_written.specs.Supplies.{wire}
 use Rattle.lp_spec_written.specs.Written.{written}
 use Rattle.lp_spec_written.proofs.Digits.{closed}

@@ -5,14 +5,14 @@ use Rattle.lp_model.specs.NetlistView.{ModuleView}
 use Rattle.lp_spec_design.specs.Keys.{Name, Path, same_path, Node, Inner, Way, PortBit, AssignBit}
 use Rattle.lp_spec_design.specs.Instances.{Placed}
 use Rattle.lp_spec_design.specs.Nodes.{computing, fuel_of}
-use Rattle.lp_spec_design.specs.Samples.{with_strategies}
+use Rattle.lp_spec_design.proofs.Samples.{with_strategies}
 use Rattle.lp_spec_realises.specs.Projects.{Project}
 use Rattle.lp_spec_realises.specs.ProjectNetlists.{netlist_of}
 use Rattle.lp_spec_realises.specs.Operators.{Placement}
 use Rattle.lp_spec_realises.specs.Realises.{Realises, same_paths, has_the_cells, begins_right, controls_begin, supplies_begin}
 use Rattle.lp_spec_realises.specs.Implements.{Lists, as_chosen}
 use Rattle.lp_spec_realises.proofs.Netlists.{is_project_netlist, is_netlist}
-use Rattle.lp_spec_written.specs.Samples.{any_cell, bare, clamped, read_twice, lower_block, clamped_outside, clamped_inside, fixed_input, wide_outside, wide_inside, higher_block, two_levels, fed, twins, top_output, switched, nested, in_the_block, exchanged, control_from_inside, control_renamed, control_beside, control_below, control_first_above, control_across, retained, retained_by_one}
+use Rattle.lp_spec_written.proofs.Samples.{any_cell, bare, clamped, read_twice, lower_block, clamped_outside, clamped_inside, fixed_input, wide_outside, wide_inside, higher_block, two_levels, fed, twins, top_output, switched, nested, in_the_block, exchanged, control_from_inside, control_renamed, control_beside, control_below, control_first_above, control_across, retained, retained_by_one}
 use Rattle.lp_spec_written.specs.Shared.{shared}
 use Rattle.lp_spec_written.specs.Written.{written}
 use Rattle.lp_spec_written.specs.Implements.{named_bits, bits_begin, Named, Implements}

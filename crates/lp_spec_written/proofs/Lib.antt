@@ -5,3 +5,4 @@ mod ComputedSupplies
 mod Digits
 mod Implemented
 mod Shapes
+pub mod Samples

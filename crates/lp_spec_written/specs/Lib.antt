@@ -3,7 +3,6 @@ pub mod Limits
 pub mod Nets
 pub mod Places
 pub mod Routes
-pub mod Samples
 pub mod Shared
 pub mod Supplies
 pub mod Written

@@ -14,7 +14,7 @@ use Rattle.lp_model.specs.declared.library.StateKind.TheVariants.{Flop}
 use Rattle.lp_model.specs.declared.supply.SetOrigins.{SetOrigins}
 use Rattle.lp_model.specs.LibraryView.{ExprView, PgPinView, PinView, CellView}
 use Rattle.lp_spec_design.specs.Keys.{Name}
-use Rattle.lp_spec_design.specs.Samples.{one_name, never}
+use Rattle.lp_spec_design.proofs.Samples.{one_name, never}
 use Rattle.lp_spec_fit.specs.Needs.{ClampNeed, ShifterNeed, RegisterNeed, SwitchCellNeed}
 
 -- ---- pins

@@ -15,10 +15,10 @@ use Rattle.lp_model.specs.NetlistView.{NetBit, ConstBit, ByName, ByPosition, Mod
 use Rattle.lp_model.specs.LibraryView.{CellView}
 use Rattle.lp_spec_design.specs.Keys.{Name, Path, Node, Inner}
 use Rattle.lp_spec_design.specs.Intents.{AtInstance, AtPort, AtBit, Strategy, Intent}
-use Rattle.lp_spec_design.specs.Samples.{one_name, port, to, top, core, read_inside, fed_through, registered, wide, with_strategies, isolation, shifting, retaining}
-use Rattle.lp_spec_network.specs.Samples.{origin, set_of}
-use Rattle.lp_spec_fit.specs.Samples.{input, output, buffer, clamp, shifter, header, register, retention_register}
-use Rattle.lp_spec_realises.specs.Samples.{inverter}
+use Rattle.lp_spec_design.proofs.Samples.{one_name, port, to, top, core, read_inside, fed_through, registered, wide, with_strategies, isolation, shifting, retaining}
+use Rattle.lp_spec_network.proofs.Samples.{origin, set_of}
+use Rattle.lp_spec_fit.proofs.Samples.{input, output, buffer, clamp, shifter, header, register, retention_register}
+use Rattle.lp_spec_realises.proofs.Samples.{inverter}
 use Rattle.lp_spec_realises.specs.Projects.{Project}
 use Rattle.lp_spec_realises.specs.Implements.{Lists}
 

@@ -10,9 +10,9 @@ use Rattle.lp_model.specs.declared.supply.SetOrigins.{SetOrigins}
 use Rattle.lp_model.specs.declared.supply.Supplies.{Supplies}
 use Rattle.lp_model.specs.LibraryView.{CellView}
 use Rattle.lp_spec_design.specs.Intents.{Intent}
-use Rattle.lp_spec_design.specs.Samples.{plain, with_strategies, isolation}
-use Rattle.lp_spec_network.specs.Samples.{origin}
-use Rattle.lp_spec_fit.specs.Samples.{buffer, clamp, shifter, cell, plain_pgs, input, output}
+use Rattle.lp_spec_design.proofs.Samples.{plain, with_strategies, isolation}
+use Rattle.lp_spec_network.proofs.Samples.{origin}
+use Rattle.lp_spec_fit.proofs.Samples.{buffer, clamp, shifter, cell, plain_pgs, input, output}
 use Rattle.lp_spec_realises.specs.Projects.{Project}
 
 abbrev pub inverter : CellView
