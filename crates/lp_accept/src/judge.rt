@@ -1,4 +1,5 @@
-ghost use Rattle.std.specs.Prelude.{◌≡◌, ◌≤◌, ◌+◌, [], ◌∷◌, length, map, true};
+ghost use Rattle.std.specs.Prelude.{◌≡◌, ◌≤◌, ◌+◌, [], ◌∷◌, length, map, true, ◌*◌};
+ghost use Rattle.lp_text.specs.declared.shelf.TheConstants.{LIMIT};
 ghost use Rattle.std.specs.List.{flat_map};
 ghost use Rattle.lp_text.specs.Texts.{text_at};
 ghost use Rattle.lp_model.specs.Agreement.{numbers_below};
@@ -97,7 +98,7 @@ fn check_sound(
     requires single { is_single_module (module_view names.now source.now) ≡ true }
     requires read { are_read (map (cell_view names.now) index.now) (module_view names.now source.now) ≡ true }
     requires fits { Fitting (map (cell_view names.now) index.now) (module_view names.now source.now) }
-    requires few { length names.now ≤ 1140850689 }
+    requires few { length names.now ≤ 17 * LIMIT + 1 }
     ensures { SoundOrStop (map (cell_view names.now) index.now) (module_view names.now source.now) result }
 {
     let plain = are_plain(alloc, index, names, source)?;
@@ -123,8 +124,8 @@ pub(crate) fn judge(
     requires source { numbers_below (length names.now) (module_numbers source.now) ≡ true }
     requires single { is_single_module (module_view names.now source.now) ≡ true }
     requires read { are_read (map (cell_view names.now) cells.now) (module_view names.now source.now) ≡ true }
-    requires few { length names.now ≤ 1140850689 }
-    requires few_cells { length cells.now ≤ 1140850689 }
+    requires few { length names.now ≤ 17 * LIMIT + 1 }
+    requires few_cells { length cells.now ≤ 17 * LIMIT + 1 }
     ensures { JudgedOrStop (map (cell_view names.now) cells.now) (module_view names.now source.now) upf.now result }
 {
     let index = CellIndex::new(alloc, names.count(), cells)?;

@@ -1,4 +1,6 @@
-ghost use Rattle.std.specs.Prelude.{◌≡◌, ◌≤◌, ◌+◌, [], length, IfOk};
+ghost use Rattle.std.specs.Prelude.{◌≡◌, ◌≤◌, ◌+◌, [], length, IfOk, ◌*◌};
+ghost use Rattle.lp_text.specs.Limits.{most_names_before};
+ghost use Rattle.lp_text.specs.declared.shelf.TheConstants.{LIMIT};
 ghost use Rattle.lp_text.specs.Texts.{Grown};
 ghost use Rattle.lp_spec_insertion.specs.Faults.{IsOff, FirstOff};
 ghost use Rattle.lp_accept.specs.Stages.{OrStop};
@@ -14,9 +16,9 @@ use std::alloc::Global;
 
 /// The groups of the text of a file.
 fn read_one(alloc: Global, names: &mut Names, file: u32, bytes: &[u8]) -> Result<Groups, Stop>
-    requires { length names.old ≤ 3000000000 }
+    requires { length names.old ≤ most_names_before }
     ensures gives { OrStop (IsGroups names.new bytes.now) (IsOff file bytes.now) result }
-    ensures short { IfOk result (λ g. length names.new ≤ length names.old + 67108864) }
+    ensures short { IfOk result (λ g. length names.new ≤ length names.old + LIMIT) }
     ensures grown { Grown names.old names.new }
 {
     match read_groups(alloc, names, file, bytes) {
@@ -31,7 +33,7 @@ fn read_all(alloc: Global, names: &mut Names, libs: &[Bytes]) -> Result<Items<Gr
     requires few { length libs.now ≤ 16 }
     requires none { names.old ≡ [] }
     ensures gives { OrStop (AreGroups names.new libs.now) (FirstOff 10 libs.now) result }
-    ensures short { IfOk result (λ g. length names.new ≤ 1073741824) }
+    ensures short { IfOk result (λ g. length names.new ≤ 16 * LIMIT) }
 {
     let mut files = Items::new(alloc);
     for library in libs {
@@ -53,7 +55,7 @@ pub(crate) fn read_library(
     requires few { length libs.now ≤ 16 }
     requires none { names.old ≡ [] }
     ensures gives { OrStop (IsCells names.new libs.now) (IsNoLibrary libs.now) result }
-    ensures short { IfOk result (λ g. length names.new ≤ 1073741825) }
+    ensures short { IfOk result (λ g. length names.new ≤ 16 * LIMIT + 1) }
 {
     let files = match read_all(alloc, names, libs) {
         Ok(files) => files,

@@ -1,4 +1,5 @@
-ghost use Rattle.std.specs.Prelude.{◌≡◌, ◌≤◌, ◌+◌, length, IfOk};
+ghost use Rattle.std.specs.Prelude.{◌≡◌, ◌≤◌, ◌+◌, length, IfOk, ◌*◌};
+ghost use Rattle.lp_text.specs.declared.shelf.TheConstants.{LIMIT};
 ghost use Rattle.lp_text.specs.Texts.{Grown};
 ghost use Rattle.lp_spec_insertion.specs.Faults.{IsRefused};
 ghost use Rattle.lp_accept.specs.Stages.{OrStop};
@@ -12,9 +13,9 @@ use std::alloc::Global;
 
 /// The modules of a netlist text.
 pub(crate) fn read_modules(alloc: Global, names: &mut Names, bytes: &[u8]) -> Result<Netlist, Stop>
-    requires { length names.old ≤ 1073741825 }
+    requires { length names.old ≤ 16 * LIMIT + 1 }
     ensures gives { OrStop (IsModules names.new bytes.now) (IsRefused bytes.now) result }
-    ensures short { IfOk result (λ n. length names.new ≤ 1140850689) }
+    ensures short { IfOk result (λ n. length names.new ≤ 17 * LIMIT + 1) }
     ensures grown { Grown names.old names.new }
 {
     numbers_stand();

@@ -1,4 +1,5 @@
 ghost use Rattle.std.specs.Prelude.{◌≡◌, ◌+◌, ◌<◌, ◌≤◌, [], ◌++◌, true, IfOk, IfErr, IsTrue, OnErr, OnOk, length, map};
+ghost use Rattle.lp_text.specs.Limits.{most_names, most_names_before};
 ghost use Rattle.std.specs.List.{flat_map};
 ghost use Rattle.std.specs.Option.{option_map};
 ghost use Rattle.lp_text.specs.Texts.{Grown, has_text, text_at, with_text};
@@ -132,7 +133,7 @@ fn library_of(alloc: Global, names: &Names, files: &[Groups]) -> Result<Library,
 
 /// Gives the empty text a number.
 fn intern_empty(names: &mut Names) -> Result<(), NoMemory>
-    requires { length names.old < 4294967295 }
+    requires { length names.old < most_names }
     ensures ok { OnOk result (names.new ≡ with_text names.old []) }
     ensures err { OnErr result (names.new ≡ names.old) }
 {
@@ -152,7 +153,7 @@ fn intern_empty(names: &mut Names) -> Result<(), NoMemory>
 ///
 /// `DuplicateCell` (F03) with the name of the first cell whose name an earlier cell has. And where memory is refused.
 pub fn library(alloc: Global, names: &mut Names, files: &[Groups]) -> Result<Library, Refusal>
-    requires { length names.old ≤ 3000000000 }
+    requires { length names.old ≤ most_names_before }
     ensures ok { IfOk result (λ l. IsLibrary (map (groups_view names.new) files.now) (library_view names.new l)) }
     ensures numbers { IfOk result (λ l. numbers_below (length names.new) (library_numbers l) ≡ true) }
     ensures err { IfErr result (RefusesLibrary names.new (map (groups_view names.new) files.now)) }

@@ -1,4 +1,5 @@
 ghost use Rattle.std.specs.Prelude.{◌≡◌, [], ◌∷◌, Some, IfSome, ◌+◌, ◌<◌, ◌≤◌, length, map, false, IsTrue, IfOk, OnErr, MatchOption, vec_len, OnOk, take, drop, ◌-◌, nat_le, ◌&&◌};
+ghost use Rattle.lp_text.specs.Limits.{most_names};
 ghost use Rattle.std.specs.Option.{option_copied, option_map, option_to_list};
 ghost use Rattle.lp_text.specs.Texts.{Grown, has_text, place_of, with_text};
 ghost use Rattle.lp_expr.specs.Grammar.{is_name};
@@ -30,7 +31,7 @@ fn find_among(names: &Names, ids: &[NameId], name: &str) -> Option<usize>
 
 /// The number of a name, where the table has room for one more.
 fn intern(names: &mut Names, name: &str) -> Result<NameId, NoMemory>
-    requires { length names.old < 4294967295 }
+    requires { length names.old < most_names }
     ensures number { IfOk result (λ id. place_of name.now names.new ≡ Some id.0) }
     ensures ok { OnOk result (names.new ≡ with_text names.old name.now) }
     ensures err { OnErr result (names.new ≡ names.old) }
@@ -44,7 +45,7 @@ fn intern(names: &mut Names, name: &str) -> Result<NameId, NoMemory>
 
 /// Counts a name among the variables, unless it would be the 13th.
 fn note(names: &mut Names, ids: &mut Vec<NameId>, name: &str) -> Result<bool, NoMemory>
-    requires room { length names.old ≤ 4294967283 + vec_len ids.old }
+    requires room { length names.old ≤ (most_names - 12) + vec_len ids.old }
     requires below { IsTrue (are_below (length names.old) ids.old.items) }
     requires few { vec_len ids.old ≤ 12 }
     ensures ok { IfOk result (NotedIf names.old ids.old.items (name.now ∷ []) names.new ids.new.items) }
@@ -111,7 +112,7 @@ fn note_part(
     text: &[u8],
     part: Part,
 ) -> Result<bool, NoMemory>
-    requires room { length names.old ≤ 4294967283 + vec_len ids.old }
+    requires room { length names.old ≤ (most_names - 12) + vec_len ids.old }
     requires below { IsTrue (are_below (length names.old) ids.old.items) }
     requires few { vec_len ids.old ≤ 12 }
     requires within { IsTrue (is_within (length text.now) part) }
@@ -134,7 +135,7 @@ pub(crate) fn collect(
     text: &[u8],
     parts: &[Part],
 ) -> Result<Option<Vec<NameId>>, NoMemory>
-    requires room { length names.old ≤ 4294967283 }
+    requires room { length names.old ≤ most_names - 12 }
     requires within { IsTrue (are_within text.now parts.now) }
     requires named { IsTrue (are_named text.now parts.now) }
     ensures ok { IfOk result (Collected names.new (parts_names text.now parts.now)) }

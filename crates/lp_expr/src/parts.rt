@@ -1,4 +1,5 @@
 ghost use Rattle.std.specs.Prelude.{◌≤◌, length, IfOk, IfErr, IsTrue};
+ghost use Rattle.lp_text.specs.declared.shelf.TheConstants.{LIMIT};
 ghost use Rattle.lp_expr.specs.Machine.{read_in, start};
 ghost use Rattle.lp_expr.specs.Parts.{ReadsParts, are_within};
 ghost use Rattle.lp_expr.specs.Denotes.{are_named};
@@ -31,7 +32,7 @@ impl From<NoMemory> for PartsFault {
 
 /// The parts of an expression in postfix order.
 fn run(alloc: Global, dialect: Dialect, text: &[u8]) -> Result<Vec<Part>, PartsFault>
-    requires { length text.now ≤ 67108864 }
+    requires { length text.now ≤ LIMIT }
     ensures { IsReading result (read_in dialect 0 text.now start) }
 {
     let mut reader = Reader::new(alloc);
@@ -52,7 +53,7 @@ pub(crate) fn parts_of(
     dialect: Dialect,
     text: &[u8],
 ) -> Result<Vec<Part>, PartsFault>
-    requires { length text.now ≤ 67108864 }
+    requires { length text.now ≤ LIMIT }
     ensures ok { IfOk result (λ parts. ReadsParts dialect text.now parts.items) }
     ensures within { IfOk result (λ parts. IsTrue (are_within text.now parts.items)) }
     ensures named { IfOk result (λ parts. IsTrue (are_named text.now parts.items)) }

@@ -1,4 +1,6 @@
-ghost use Rattle.std.specs.Prelude.{◌≡◌, ◌+◌, ◌≤◌, length, IfOk, IfErr, IsTrue};
+ghost use Rattle.std.specs.Prelude.{◌≡◌, ◌+◌, ◌≤◌, length, IfOk, IfErr, IsTrue, ◌-◌};
+ghost use Rattle.lp_text.specs.Limits.{most_names};
+ghost use Rattle.lp_text.specs.declared.shelf.TheConstants.{LIMIT};
 ghost use Rattle.lp_text.specs.Texts.{Grown};
 ghost use Rattle.lp_expr.specs.Answers.{Refuses};
 ghost use Rattle.lp_expr.specs.Denotes.{Reads, are_named};
@@ -48,8 +50,8 @@ impl From<NoMemory> for ExprFault {
 /// `Syntax` off the grammar, `TooManyVariables` in it with 13 or more variables, and where memory is
 /// refused. The table may then have grown.
 pub fn read_liberty(alloc: Global, names: &mut Names, text: &str) -> Result<Expr, ExprFault>
-    requires short { length text.now ≤ 67108864 }
-    requires room { length names.old ≤ 4294967283 }
+    requires short { length text.now ≤ LIMIT }
+    requires room { length names.old ≤ most_names - 12 }
     ensures ok { IfOk result (Reads Liberty text.now names.new) }
     ensures err { IfErr result (Refuses Liberty text.now) }
     ensures grown { Grown names.old names.new }
@@ -61,8 +63,8 @@ pub fn read_liberty(alloc: Global, names: &mut Names, text: &str) -> Result<Expr
 
 /// The control expression of a UPF command, over names of the table; all else as for [`read_liberty`].
 pub fn read_control(alloc: Global, names: &mut Names, text: &str) -> Result<Expr, ExprFault>
-    requires short { length text.now ≤ 67108864 }
-    requires room { length names.old ≤ 4294967283 }
+    requires short { length text.now ≤ LIMIT }
+    requires room { length names.old ≤ most_names - 12 }
     ensures ok { IfOk result (Reads Control text.now names.new) }
     ensures err { IfErr result (Refuses Control text.now) }
     ensures grown { Grown names.old names.new }
@@ -73,8 +75,8 @@ pub fn read_control(alloc: Global, names: &mut Names, text: &str) -> Result<Expr
 }
 
 fn read(alloc: Global, names: &mut Names, dialect: Dialect, text: &str) -> Result<Expr, ExprFault>
-    requires short { length text.now ≤ 67108864 }
-    requires room { length names.old ≤ 4294967283 }
+    requires short { length text.now ≤ LIMIT }
+    requires room { length names.old ≤ most_names - 12 }
     ensures ok { IfOk result (Reads dialect text.now names.new) }
     ensures err { IfErr result (Refuses dialect text.now) }
     ensures grown { Grown names.old names.new }
@@ -100,7 +102,7 @@ fn build(
     requires reads { ReadsParts dialect text.now parts.now }
     requires within { IsTrue (are_within text.now parts.now) }
     requires named { IsTrue (are_named text.now parts.now) }
-    requires room { length names.old ≤ 4294967283 }
+    requires room { length names.old ≤ most_names - 12 }
     ensures ok { IfOk result (Reads dialect text.now names.new) }
     ensures err { IfErr result (Refuses dialect text.now) }
     ensures grown { Grown names.old names.new }

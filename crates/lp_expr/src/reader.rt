@@ -1,4 +1,5 @@
 ghost use Rattle.std.specs.Prelude.{◌≡◌, ◌<◌, Some, None, IfOk, OnOk, if◌then◌else◌};
+ghost use Rattle.lp_text.specs.declared.shelf.TheConstants.{LIMIT};
 ghost use Rattle.std.specs.Option.{option_map};
 ghost use Rattle.lp_expr.specs.Machine.{start, ended_by, with_ended, closed_in, signed_in, with_last, waiting_for, with_part, begun, wanted, shut_in, on_sign_in, followed, on_longer_in, step_in, whole_in, finished};
 
@@ -105,7 +106,7 @@ impl Reader {
 
     /// The first byte of an operand.
     fn begin(&mut self, dialect: Dialect, at: usize, byte: u8) -> Result<bool, NoMemory>
-        requires { at < 67108864 }
+        requires { at < LIMIT }
         ensures { IfOk result (λ taken. begun dialect at byte self.old ≡ (if taken then Some self.new else None)) }
     {
         if is_inner(byte) {
@@ -124,7 +125,7 @@ impl Reader {
 
     /// A byte where an operand has to come.
     fn want(&mut self, dialect: Dialect, at: usize, byte: u8) -> Result<bool, NoMemory>
-        requires { at < 67108864 }
+        requires { at < LIMIT }
         ensures { IfOk result (λ taken. wanted dialect at byte self.old ≡ (if taken then Some self.new else None)) }
     {
         if is_blank(byte) {
@@ -157,7 +158,7 @@ impl Reader {
         spaced: bool,
         sign: Option<Sign>,
     ) -> Result<bool, NoMemory>
-        requires { at < 67108864 }
+        requires { at < LIMIT }
         ensures { IfOk result (λ taken. on_sign_in dialect at byte spaced self.old sign ≡ (if taken then Some self.new else None)) }
     {
         match sign {
@@ -187,7 +188,7 @@ impl Reader {
         byte: u8,
         spaced: bool,
     ) -> Result<bool, NoMemory>
-        requires { at < 67108864 }
+        requires { at < LIMIT }
         ensures { IfOk result (λ taken. followed dialect at byte spaced self.old ≡ (if taken then Some self.new else None)) }
     {
         if is_blank(byte) {
@@ -214,7 +215,7 @@ impl Reader {
         sign: Sign,
         longer: Option<Sign>,
     ) -> Result<bool, NoMemory>
-        requires { at < 67108864 }
+        requires { at < LIMIT }
         ensures { IfOk result (λ taken. on_longer_in dialect at byte sign self.old longer ≡ (if taken then Some self.new else None)) }
     {
         match longer {
@@ -231,7 +232,7 @@ impl Reader {
 
     /// Takes the next byte, whose number is `at`, or says that no expression goes on with it.
     pub(crate) fn step(&mut self, dialect: Dialect, at: usize, byte: u8) -> Result<bool, NoMemory>
-        requires { at < 67108864 }
+        requires { at < LIMIT }
         ensures { IfOk result (λ taken. step_in dialect at byte self.old ≡ (if taken then Some self.new else None)) }
     {
         match self.last {

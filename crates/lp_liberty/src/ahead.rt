@@ -1,4 +1,5 @@
 ghost use Rattle.std.specs.Prelude.{◌≡◌, ℕ, ◌≤◌, List, length};
+ghost use Rattle.lp_text.specs.declared.shelf.TheConstants.{LIMIT};
 ghost use Rattle.std.specs.Option.{option_and_then};
 ghost use Rattle.lp_liberty.specs.declared.lexed.Lexed.{Lexed};
 ghost use Rattle.lp_liberty.specs.Tokens.{bare, token_of, tokens_from};
@@ -41,7 +42,7 @@ fn head_mode(mode: Mode, sort: Sort) -> Option<Mode>
 
 /// Whether the statement that a text goes on with turns out to be a group, by at most this many tokens.
 pub(crate) fn opens_group(start: Mode, text: &[u8], most: usize) -> bool
-    requires { length text.now ≤ 67108864 }
+    requires { length text.now ≤ LIMIT }
     ensures { result ≡ opens_group start (bare (tokens_from most (context_of start) 0 text.now)) }
 {
     let mut mode = start;

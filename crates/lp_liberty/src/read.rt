@@ -1,4 +1,5 @@
 ghost use Rattle.std.specs.Prelude.{◌≡◌, ◌+◌, ◌<◌, ◌≤◌, None, true, length, map, IfOk, IfErr};
+ghost use Rattle.lp_text.specs.Limits.{most_names_before};
 ghost use Rattle.std.specs.List.{flat_map};
 ghost use Rattle.lp_text.specs.Places.{place_in};
 ghost use Rattle.lp_text.specs.Texts.{Grown};
@@ -17,7 +18,7 @@ use std::alloc::Global;
 /// The groups of a text, or where it is refused.
 fn groups_of(alloc: Global, names: &mut Names, text: &[u8]) -> Result<Items<Group>, Stop>
     requires small { length text.now ≤ LIMIT }
-    requires room { length names.old ≤ 3000000000 }
+    requires room { length names.old ≤ most_names_before }
     ensures ok { IfOk result (λ groups. Denotes text.now (map (group_view names.new) groups)) }
     ensures numbers { IfOk result (λ groups. numbers_below (length names.new) (flat_map group_numbers groups) ≡ true) }
     ensures err { IfErr result (StopsAt text.now) }
@@ -64,7 +65,7 @@ pub fn read_groups(
     file: u32,
     bytes: &[u8],
 ) -> Result<Groups, Refusal>
-    requires { length names.old ≤ 3000000000 }
+    requires { length names.old ≤ most_names_before }
     ensures ok { IfOk result (ReadsGroups file bytes.now names.new) }
     ensures numbers { IfOk result (λ g. numbers_below (length names.new) (groups_numbers g) ≡ true) }
     ensures err { IfErr result (RefusedAs file bytes.now) }

@@ -1,4 +1,5 @@
 ghost use Rattle.std.specs.Prelude.{◌≡◌, ℕ, List, [], ◌∷◌, Some, None, ◌+◌, ◌<◌, ◌≤◌, ◌^◌, true, false, length, drop, IfOk, IfErr, OnOk, OnErr, if◌then◌else◌};
+ghost use Rattle.lp_text.specs.Limits.{most_names, most_names_before};
 ghost use Rattle.std.specs.String.{string_bytes};
 ghost use Rattle.lp_text.specs.declared.shelf.TheConstants.{LIMIT};
 ghost use Rattle.lp_text.specs.Texts.{Grown, has_text, place_of, with_text};
@@ -47,7 +48,7 @@ impl From<NoMemory> for Stop {
 
 /// The number of a name, where the table has room for one more.
 fn intern(names: &mut Names, name: &str) -> Result<NameId, NoMemory>
-    requires { length names.old < 4294967295 }
+    requires { length names.old < most_names }
     ensures number { IfOk result (λ id. id ≡ numbered_as names.new name.now) }
     ensures ok { OnOk result (names.new ≡ with_text names.old name.now) }
     ensures err { OnErr result (names.new ≡ names.old) }
@@ -68,7 +69,7 @@ fn take_name(
     quoted: bool,
     at: usize,
 ) -> Result<bool, NoMemory>
-    requires { length names.old < 4294967295 }
+    requires { length names.old < most_names }
     ensures names { OnOk result (names.new ≡ with_text names.old (name_of said.now)) }
     ensures taken { IfOk result (λ taken. name_in quoted (number_in names.old (name_of said.now)) at reader.old ≡ (if taken then Some reader.new else None)) }
     ensures grown { Grown names.old names.new }
@@ -107,7 +108,7 @@ fn take_mark(reader: &mut Reader, mark: Mark, at: usize) -> Result<(), Stop>
 /// Where a text stops at a token that is too long, whose first byte has the index `at`. It is the first of at most `left`
 /// tokens that are left: at the word of the group whose head it stands in, where that is too deep, else at the token.
 fn too_long(reader: &Reader, rest: &[u8], left: usize, at: usize) -> Stop
-    requires { length rest.now ≤ 67108864 }
+    requires { length rest.now ≤ LIMIT }
     ensures { IsStop result (stop_ahead left rest.now reader.now at) }
 {
     if !reader.has_room() && opens_group(reader.mode(), rest, left) {
@@ -126,8 +127,8 @@ fn step(
     token: Lexed,
     at: usize,
 ) -> Result<(), Stop>
-    requires size { length rest.now ≤ 67108864 }
-    requires room { length names.old < 4294967295 }
+    requires size { length rest.now ≤ LIMIT }
+    requires room { length names.old < most_names }
     requires few { length reader.old.groups < 2 ^ 32 }
     requires order { token.from ≤ token.«to» }
     requires within { token.«to» ≤ length rest.now }
@@ -163,7 +164,7 @@ fn finish(reader: Reader, end: usize) -> Result<Items<Group>, Stop>
 /// The groups of a text, or where it is refused.
 pub(crate) fn run(alloc: Global, names: &mut Names, text: &[u8]) -> Result<Items<Group>, Stop>
     requires small { length text.now ≤ LIMIT }
-    requires room { length names.old ≤ 3000000000 }
+    requires room { length names.old ≤ most_names_before }
     ensures ok { IfOk result (λ groups. read_in (length text.now) names.old start (tokens_of text.now) ≡ Whole names.new groups) }
     ensures err { IfErr result (λ stop. IsStop stop (read_in (length text.now) names.old start (tokens_of text.now))) }
     ensures grown { Grown names.old names.new }

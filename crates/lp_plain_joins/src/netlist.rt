@@ -1,4 +1,5 @@
-ghost use Rattle.std.specs.Prelude.{◌≡◌, ℕ, ◌+◌, ◌≤◌, true, length, map, flat_map, IfOk};
+ghost use Rattle.std.specs.Prelude.{◌≡◌, ℕ, ◌+◌, ◌≤◌, true, length, map, flat_map, IfOk, ◌-◌};
+ghost use Rattle.lp_text.specs.Limits.{most_names};
 ghost use Rattle.lp_text.specs.Texts.{Grown};
 ghost use Rattle.lp_model.specs.Agreement.{numbers_below};
 ghost use Rattle.lp_model.specs.LibraryView.{cell_numbers, cell_view};
@@ -68,7 +69,7 @@ pub fn connect_all(
 ) -> Result<Module, NoMemory>
     requires cells { numbers_below (length names.old) (flat_map cell_numbers index.now) ≡ true }
     requires source { numbers_below (length names.old) (module_numbers source) ≡ true }
-    requires room { length names.old ≤ 4294967293 }
+    requires room { length names.old ≤ most_names - 2 }
     ensures supplied { IfOk result (λ w. (margin : ℕ) → module_view names.new w
         ≡ powered (flat_of (map (cell_view names.old) index.now) (module_view names.old source) power.now gnd.now margin)) }
     ensures numbers { IfOk result (λ w. numbers_below (length names.new) (module_numbers w) ≡ true) }

@@ -1,4 +1,5 @@
 ghost use Rattle.std.specs.Prelude.{◌≡◌, ◌+◌, ◌<◌, ◌≤◌, [], ◌∷◌, ◌++◌, Some, length, IfOk, OnOk};
+ghost use Rattle.lp_text.specs.Limits.{most_names};
 ghost use Rattle.lp_text.specs.Texts.{Grown, place_of};
 ghost use Rattle.lp_spec_plain_module.specs.Netlists.{supply_port};
 ghost use Rattle.lp_plain_joins.specs.Joins.{port_in};
@@ -11,7 +12,7 @@ use std::alloc::Global;
 
 /// The number of a name, where the table has room for one more.
 fn intern(names: &mut Names, name: &str) -> Result<NameId, NoMemory>
-    requires { length names.old < 4294967295 }
+    requires { length names.old < most_names }
     ensures number { IfOk result (λ id. place_of name.now names.new ≡ Some id.0) }
     ensures grown { Grown names.old names.new }
     ensures few { length names.new ≤ length names.old + 1 }
@@ -25,7 +26,7 @@ fn intern(names: &mut Names, name: &str) -> Result<NameId, NoMemory>
 
 /// The port that carries a supply port of the intent. The table has room for its name.
 pub fn supply_port(alloc: Global, names: &mut Names, origin: &str) -> Result<NameId, NoMemory>
-    requires { length names.old < 4294967295 }
+    requires { length names.old < most_names }
     ensures number { IfOk result (λ id. place_of (supply_port origin.now) names.new ≡ Some id.0) }
     ensures grown { Grown names.old names.new }
     ensures few { length names.new ≤ length names.old + 1 }

@@ -1,4 +1,5 @@
 ghost use Rattle.std.specs.Prelude.{◌≡◌, ◌<◌, ◌≤◌, ◌↔◌, [], ◌∷◌, ◌++◌, length, false, IsErrOf, IsOkUnless, IsTrue, IfOk, OnOk, OnErr, slice_index_or};
+ghost use Rattle.lp_text.specs.Limits.{most_names};
 ghost use Rattle.lp_text.specs.Texts.{distinct, has_text, place_of, with_text};
 
 use crate::memory::NoMemory;
@@ -125,7 +126,7 @@ impl Names {
     pub fn intern(&mut self, text: &str) -> Result<NameId, NamesFault>
         ensures number { IfOk result (λ id. place_of text.now self.new ≡ Some id.0) }
         ensures ok { IfOk result (λ id. self.new ≡ with_text self.old text.now) }
-        ensures full { IsErrOf result NamesFault.Full ↔ ((has_text text.now self.old ≡ false) × (length self.old ≡ 4294967295)) }
+        ensures full { IsErrOf result NamesFault.Full ↔ ((has_text text.now self.old ≡ false) × (length self.old ≡ most_names)) }
         ensures err { OnErr result (self.new ≡ self.old) }
     {
         match self.place(text) {
@@ -139,7 +140,7 @@ impl Names {
         requires { has_text text.now self.old ≡ false }
         ensures number { IfOk result (λ id. id.0 ≡ length self.old) }
         ensures ok { OnOk result (self.new ≡ self.old ++ text.now ∷ []) }
-        ensures full { IsErrOf result NamesFault.Full ↔ (length self.old ≡ 4294967295) }
+        ensures full { IsErrOf result NamesFault.Full ↔ (length self.old ≡ most_names) }
         ensures err { OnErr result (self.new ≡ self.old) }
     {
         let last = self.count();
@@ -153,7 +154,7 @@ impl Names {
     /// Puts a new text behind the others.
     fn append(&mut self, text: &str) -> Result<(), NamesFault>
         requires absent { has_text text.now self.old ≡ false }
-        requires room { length self.old < 4294967295 }
+        requires room { length self.old < most_names }
         ensures ok { OnOk result (self.new ≡ self.old ++ text.now ∷ []) }
         ensures err { OnErr result (self.new ≡ self.old) }
         ensures memory { IsOkUnless result NamesFault.NoMemory }

@@ -1,4 +1,5 @@
-ghost use Rattle.std.specs.Prelude.{◌≡◌, ℕ, ◌≤◌, ◌^◌, [], ◌∷◌, List, length, IfOk, true};
+ghost use Rattle.std.specs.Prelude.{◌≡◌, ℕ, ◌≤◌, ◌^◌, [], ◌∷◌, List, length, IfOk, true, ◌*◌, ◌+◌};
+ghost use Rattle.lp_text.specs.declared.shelf.TheConstants.{LIMIT};
 ghost use Rattle.std.specs.List.{list_all};
 ghost use Rattle.lp_model.specs.Agreement.{numbers_below};
 ghost use Rattle.lp_model.specs.LibraryView.{CellView, library_numbers};
@@ -100,8 +101,8 @@ fn report(alloc: Global) -> Result<Bytes, NoMemory>
 fn powered_text(alloc: Global, accepted: Accepted) -> Result<Bytes, NoMemory>
     requires cells { numbers_below (length accepted.names) (library_numbers accepted.library) ≡ true }
     requires source { numbers_below (length accepted.names) (module_numbers accepted.source) ≡ true }
-    requires few_names { length accepted.names ≤ 1140850689 }
-    requires few_cells { length accepted.library.cells ≤ 1140850689 }
+    requires few_names { length accepted.names ≤ 17 * LIMIT + 1 }
+    requires few_cells { length accepted.library.cells ≤ 17 * LIMIT + 1 }
     requires power { list_all is_visible accepted.intent.power ≡ true }
     requires ground { list_all is_visible accepted.intent.gnd ≡ true }
     ensures laid { IfOk result (λ b. (margin : ℕ) → b ≡ layout (powered (flat_by accepted margin) ∷ [])) }
@@ -138,8 +139,8 @@ fn refused_by(stop: Stop) -> Refusal
 fn write(alloc: Global, accepted: Accepted) -> Result<Written, NoMemory>
     requires cells { numbers_below (length accepted.names) (library_numbers accepted.library) ≡ true }
     requires source { numbers_below (length accepted.names) (module_numbers accepted.source) ≡ true }
-    requires few_names { length accepted.names ≤ 1140850689 }
-    requires few_cells { length accepted.library.cells ≤ 1140850689 }
+    requires few_names { length accepted.names ≤ 17 * LIMIT + 1 }
+    requires few_cells { length accepted.library.cells ≤ 17 * LIMIT + 1 }
     requires power { list_all is_visible accepted.intent.power ≡ true }
     requires ground { list_all is_visible accepted.intent.gnd ≡ true }
     ensures laid { IfOk result (λ w. (margin : ℕ) → w.netlist ≡ layout (powered (flat_by accepted margin) ∷ [])) }

@@ -9,7 +9,7 @@ use Rattle.lp_model.specs.declared.netlist.Module.{Module}
 use Rattle.lp_model.specs.Agreement.{numbers_below}
 use Rattle.lp_model.specs.FaultLines.{fault_line}
 use Rattle.lp_model.specs.NetlistView.{ModuleView, module_numbers, module_view}
-use Rattle.lp_verilog.specs.Reading.{most_names}
+use Rattle.lp_text.specs.Limits.{most_names}
 use Rattle.lp_verilog.specs.Denotes.{Denotes}
 use Rattle.lp_verilog.specs.Reads.{Reads}
 use Rattle.lp_verilog.specs.Refusing.{Refuses}

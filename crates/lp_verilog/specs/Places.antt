@@ -16,7 +16,8 @@ use Rattle.lp_verilog_grammar.specs.declared.symbol.Symbol.TheVariants as symbol
 use Rattle.lp_verilog_grammar.specs.declared.reader.Reader.{Reader}
 use Rattle.lp_verilog_draft.specs.Verdicts.{Goes}
 use Rattle.lp_verilog_grammar.specs.Machine.{start, step}
-use Rattle.lp_verilog.specs.Reading.{behind, most_names}
+use Rattle.lp_text.specs.Limits.{most_names}
+use Rattle.lp_verilog.specs.Reading.{behind}
 use Rattle.lp_verilog.specs.Denotes.{numbered, is_known}
 use Rattle.lp_verilog.specs.Reads.{Reads}
 

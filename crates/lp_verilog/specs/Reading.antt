@@ -11,10 +11,6 @@ use Rattle.lp_verilog_tokens.specs.Cutting.{Lexeme, Named, Plain, Piece, piece_o
 use Rattle.lp_verilog_draft.specs.Verdicts.{Verdict, Goes, Stops}
 use Rattle.lp_verilog_grammar.specs.Machine.{step, accepts}
 
--- the most names of a table, so that a number has 32 bits
-abbrev pub most_names : ℕ
-most_names = 4294967295
-
 -- the number of a name in a table; a new name comes last
 abbrev pub number_in : List (List ℕ) → List ℕ → ℕ
 number_in names text = unwrap_or (place_of text (with_text names text)) 0

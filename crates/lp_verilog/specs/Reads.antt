@@ -3,7 +3,7 @@ use Rattle.std.specs.Prelude.{◌≡◌, ◌≤◌, ℕ, true, List, length, map
 use Rattle.lp_text.specs.Texts.{distinct}
 use Rattle.lp_model.specs.declared.netlist.Module.{Module}
 use Rattle.lp_model.specs.NetlistView.{ModuleView, module_view}
-use Rattle.lp_verilog.specs.Reading.{most_names}
+use Rattle.lp_text.specs.Limits.{most_names}
 use Rattle.lp_verilog.specs.Denotes.{Denotes}
 
 -- with its names numbered by some table of distinct texts, the text denotes modules that are seen so

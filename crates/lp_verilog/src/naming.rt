@@ -1,6 +1,7 @@
 ghost use Rattle.std.specs.Prelude.{◌≡◌, ◌+◌, ◌<◌, ◌≤◌, length, IfOk, OnOk};
 ghost use Rattle.lp_text.specs.Texts.{Grown, with_text};
-ghost use Rattle.lp_verilog.specs.Reading.{most_names, number_in, token_in, names_with, unnamed};
+ghost use Rattle.lp_text.specs.Limits.{most_names};
+ghost use Rattle.lp_verilog.specs.Reading.{number_in, token_in, names_with, unnamed};
 ghost use Rattle.lp_verilog_tokens.specs.View.{lexeme_view};
 
 use lp_text::{NameId, Names, NamesFault, NoMemory};

@@ -4,7 +4,7 @@ ghost use Rattle.lp_text.specs.Texts.{Grown};
 ghost use Rattle.lp_text.specs.Places.{place_in};
 ghost use Rattle.lp_model.specs.NetlistView.{netlist_view};
 ghost use Rattle.lp_verilog.specs.Denotes.{Denotes};
-ghost use Rattle.lp_verilog.specs.Reading.{most_names};
+ghost use Rattle.lp_text.specs.Limits.{most_names, most_names_before};
 ghost use Rattle.lp_verilog.specs.Reads.{Reads};
 ghost use Rattle.lp_verilog_tokens.specs.Lexical.{is_visible};
 ghost use Rattle.lp_verilog_draft.specs.declared.stop.Off.TheVariants as offs;
@@ -68,7 +68,7 @@ fn refusal(names: &mut Names, text: &[u8], off: Off, at: usize, word: &[u8]) -> 
 /// F22 above 67,108,864 bytes; F10, F11 or F12 at the first token that cannot stand where it does; and where memory is
 /// refused. The table may then have grown.
 pub fn read_netlist(alloc: Global, names: &mut Names, bytes: &[u8]) -> Result<Netlist, Refusal>
-    requires { length names.old ≤ 3000000000 }
+    requires { length names.old ≤ most_names_before }
     ensures reads { IfOk result (λ n. Reads bytes.now (netlist_view names.new n)) }
     ensures numbers { IfOk result (λ n. Denotes names.new bytes.now n.modules) }
     ensures short { OnOk result (length bytes.now ≤ LIMIT) }

@@ -2,7 +2,8 @@ ghost use Rattle.std.specs.Prelude.{◌≡◌, ◌+◌, ◌<◌, ◌≤◌, ℕ,
 ghost use Rattle.std.specs.List.{list_all};
 ghost use Rattle.lp_text.specs.declared.shelf.TheConstants.{LIMIT};
 ghost use Rattle.lp_text.specs.Texts.{Grown};
-ghost use Rattle.lp_verilog.specs.Reading.{most_names, read_rest, ending};
+ghost use Rattle.lp_text.specs.Limits.{most_names, most_names_before};
+ghost use Rattle.lp_verilog.specs.Reading.{read_rest, ending};
 ghost use Rattle.lp_verilog_grammar.specs.Machine.{start, step};
 ghost use Rattle.lp_verilog.specs.Answers.{Takes, Turns, Finishes, IsReading, Unread, EndsUnread};
 ghost use Rattle.lp_verilog.specs.Reading.{left_out};
@@ -124,7 +125,7 @@ pub(crate) fn read_modules<'a>(
     bytes: &'a [u8],
 ) -> Result<Items<Module>, Halt<'a>>
     requires short { length bytes.now ≤ LIMIT }
-    requires room { length names.old ≤ 3000000000 }
+    requires room { length names.old ≤ most_names_before }
     ensures reads { IsReading result names.new (read_rest bytes.now (length bytes.now) true bytes.now names.old start) }
     ensures grown { Grown names.old names.new }
     ensures few { length names.new ≤ length names.old + length bytes.now }

@@ -1,4 +1,4 @@
-ghost use Rattle.std.specs.Prelude.{◌≡◌, [], ◌∷◌, ◌++◌, ◌≤◌, ◌+◌, ◌-◌, ◌<◌, if◌then◌else◌, map, IsTrue, OnOk, IfOk};
+ghost use Rattle.std.specs.Prelude.{◌≡◌, [], ◌∷◌, ◌++◌, ◌≤◌, ◌+◌, ◌-◌, ◌<◌, if◌then◌else◌, map, IsTrue, OnOk, IfOk, ◌^◌};
 ghost use Rattle.lp_model.specs.declared.bits.Bit.TheVariants as bits;
 ghost use Rattle.lp_verilog_draft.specs.Values.{digit, indices, select, whole, constant_bits};
 
@@ -32,7 +32,7 @@ fn digit(value: u128, place: u8) -> bool
 
 /// The index that comes so many steps behind the first one, up or down.
 fn index_at(up: bool, first: u32, steps: u32) -> u32
-    requires { IsTrue up → first + steps < 4294967296 }
+    requires { IsTrue up → first + steps < 2 ^ 32 }
     ensures { result ≡ (if up then first + steps else first - steps) }
 {
     if up {
@@ -77,8 +77,8 @@ impl BitList {
         first: u32,
         count: u64,
     ) -> Result<(), NoMemory>
-        requires up { IsTrue up → first + count < 4294967297 }
-        requires down { count < 4294967297 }
+        requires up { IsTrue up → first + count < 2 ^ 32 + 1 }
+        requires down { count < 2 ^ 32 + 1 }
         ensures { OnOk result (self.new ≡ self.old ++ map (λ k. bits.Select name k) (indices up first 0 count)) }
     {
         for k in 0..count {

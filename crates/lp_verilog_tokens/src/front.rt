@@ -1,4 +1,5 @@
 ghost use Rattle.std.specs.Prelude.{◌≡◌, ◌+◌, ◌≤◌, ◌<◌, length, take, drop, [], ◌∷◌, IsTrue, IfSome};
+ghost use Rattle.lp_text.specs.declared.shelf.TheConstants.{LIMIT};
 ghost use Rattle.std.specs.Option.{option_map};
 ghost use Rattle.std.specs.List.{list_all, prefix_len};
 ghost use Rattle.lp_verilog_tokens.specs.Lexical.{is_inner, is_number_byte, is_visible, is_constant_byte};
@@ -35,7 +36,7 @@ fn word_front(text: &[u8]) -> Front<'_>
 
 /// The constant with a size of `before` bytes, and with a base and digits at the front of the rest.
 fn quoted_front<'a>(before: usize, size: &[u8], rest: &'a [u8]) -> Front<'a>
-    requires { before + length rest.now < 67108865 }
+    requires { before + length rest.now < LIMIT + 1 }
     ensures { front_view result ≡ quoted_front before size.now rest.now }
 {
     let body = constant_len(rest);
@@ -47,7 +48,7 @@ fn quoted_front<'a>(before: usize, size: &[u8], rest: &'a [u8]) -> Front<'a>
 
 /// The number of this run, or the constant of this size where a quote follows.
 fn number_front<'a>(run: &[u8], rest: &'a [u8]) -> Front<'a>
-    requires { length run.now + length rest.now < 67108865 }
+    requires { length run.now + length rest.now < LIMIT + 1 }
     ensures { front_view result ≡ number_front (length run.now) run.now rest.now }
 {
     match rest {
@@ -57,7 +58,7 @@ fn number_front<'a>(run: &[u8], rest: &'a [u8]) -> Front<'a>
 }
 
 fn number_at(text: &[u8]) -> Front<'_>
-    requires { length text.now < 67108865 }
+    requires { length text.now < LIMIT + 1 }
     ensures { front_view result ≡ number_at text.now }
 {
     let (run, rest) = text.split_at(number_len(text));
@@ -66,7 +67,7 @@ fn number_at(text: &[u8]) -> Front<'_>
 
 /// The name behind a backslash, where a blank ends it.
 fn escaped_front<'a>(name: &'a [u8], rest: &'a [u8]) -> Front<'a>
-    requires short { length name.now < 67108865 }
+    requires short { length name.now < LIMIT + 1 }
     requires visible { IsTrue (list_all is_visible name.now) }
     ensures { front_view result ≡ escaped_front (length name.now) name.now rest.now }
 {
@@ -84,7 +85,7 @@ fn escaped_front<'a>(name: &'a [u8], rest: &'a [u8]) -> Front<'a>
 
 #[tactic(auto, using(crate::proofs::Visible::front_passes))]
 fn escaped_at(rest: &[u8]) -> Front<'_>
-    requires { length rest.now < 67108865 }
+    requires { length rest.now < LIMIT + 1 }
     ensures { front_view result ≡ escaped_at rest.now }
 {
     let (name, behind) = rest.split_at(visible_len(rest));
@@ -93,7 +94,7 @@ fn escaped_at(rest: &[u8]) -> Front<'_>
 
 /// A directive behind its backquote.
 fn directive_front(rest: &[u8]) -> Front<'_>
-    requires { length rest.now < 67108865 }
+    requires { length rest.now < LIMIT + 1 }
     ensures { front_view result ≡ directive_front rest.now }
 {
     match rest {
@@ -127,7 +128,7 @@ fn mark_of(byte: u8) -> Token
 /// The token of a text that begins with a byte.
 fn front_of<'a>(text: &'a [u8], first: u8, rest: &'a [u8]) -> Front<'a>
     requires whole { text.now ≡ first ∷ rest.now }
-    requires short { length text.now < 67108865 }
+    requires short { length text.now < LIMIT + 1 }
     ensures { front_view result ≡ front_of first rest.now }
 {
     if is_lead(first) {
@@ -161,7 +162,7 @@ fn placed<'a>(end: usize, gap: usize, front: Front<'a>) -> Piece<'a>
 }
 
 fn piece_behind<'a>(end: usize, gap: usize, text: &'a [u8]) -> Option<Piece<'a>>
-    requires short { length text.now < 67108865 }
+    requires short { length text.now < LIMIT + 1 }
     requires within { gap ≤ end }
     ensures piece { option_map piece_view result ≡ piece_behind end gap text.now }
     ensures gap { IfSome result (λ p. p.gap ≤ end) }
@@ -174,7 +175,7 @@ fn piece_behind<'a>(end: usize, gap: usize, text: &'a [u8]) -> Option<Piece<'a>>
 
 /// The first token of a text and the gap before it, none where there is only a gap.
 pub fn piece_of<'a>(fresh: bool, text: &'a [u8]) -> Option<Piece<'a>>
-    requires { length text.now < 67108865 }
+    requires { length text.now < LIMIT + 1 }
     ensures piece { option_map piece_view result ≡ piece_of fresh text.now }
     ensures gap { IfSome result (λ p. p.gap ≤ length text.now) }
 {

@@ -7,7 +7,7 @@ use Rattle.lp_model.specs.declared.netlist.BitRange.{BitRange}
 use Rattle.lp_model.specs.NetlistView.{BitView, NetBit, SelectBit, ConstBit, PortView, NetView, ConnectionView, ConnectionsView, ByName, ByPosition, InstanceView, AssignView, ModuleView}
 use Rattle.lp_verilog_tokens.specs.Lexical.{is_visible}
 use Rattle.lp_verilog_draft.specs.Values.{is_in}
-use Rattle.lp_verilog.specs.Reading.{most_names}
+use Rattle.lp_text.specs.Limits.{most_names}
 use Rattle.lp_verilog.specs.Reads.{Reads}
 use Rattle.lp_vwrite.specs.Layout.{declared}
 
