@@ -1,5 +1,5 @@
 use crate::ids::{CellId, EdgeId, InstId, LeafId, NodeId};
-use crate::netlist::Netlist;
+use crate::netlist::{Direction, Netlist};
 use lp_text::NameId;
 use sqlite_items::Items;
 
@@ -66,11 +66,13 @@ pub enum EdgeFrom {
     Const(bool),
 }
 
-/// What makes an edge.
+/// What makes an edge. Of a port of the top the direction decides, as of a port of any instance.
 #[derive(Clone, Copy)]
 pub enum EdgeKind {
-    /// A port connection of a module instance, or a port of the top.
-    Port,
+    /// An input port: the edge leads into its instance.
+    In,
+    /// An output port: the edge leads out of its instance.
+    Out,
     /// An assign.
     Assign,
 }
@@ -110,7 +112,7 @@ pub struct Leaf {
     pub start: u32,
 }
 
-/// A module instance. It takes 16 bytes.
+/// A module instance. It takes 20 bytes.
 #[derive(Clone, Copy)]
 pub struct Inst {
     /// The instance's name; of the top its module's name.
@@ -119,6 +121,19 @@ pub struct Inst {
     pub module: u32,
     /// The instance in which it stands; the top has none.
     pub parent: Option<InstId>,
+    /// Its first node: its net bits are the nodes from this number on.
+    pub start: u32,
+}
+
+/// What is known of a library's cell where the library itself is not at hand. It takes 24 bytes, and one a pin.
+#[derive(Drop)]
+pub struct CellShape {
+    /// The directions of its signal pins, in the cell's order.
+    pub pins: Items<Direction>,
+    /// The number of its pg_pins; in a row they come after the signal pins.
+    pub pgs: u8,
+    /// Whether it has a state group, so that its instances are registers.
+    pub state: bool,
 }
 
 /// The bits of an elaborated netlist with all that drives them (own rule). Each table goes by number.
@@ -126,6 +141,8 @@ pub struct Inst {
 pub struct Graph {
     /// The netlist that was elaborated.
     pub source: Netlist,
+    /// The shapes of the library's cells, by the cells' numbers.
+    pub shapes: Items<CellShape>,
     /// The module instances, in preorder by the order of statements: at most 1,000,000.
     pub instances: Items<Inst>,
     /// The cell instances, in preorder by the order of statements: at most 1,000,000.

@@ -73,6 +73,7 @@ pub use fault::UnfitReason;
 pub use fault::write_line;
 pub use fault::write_line_with;
 pub use generated::Generated;
+pub use graph::CellShape;
 pub use graph::Edge;
 pub use graph::EdgeFrom;
 pub use graph::EdgeKind;

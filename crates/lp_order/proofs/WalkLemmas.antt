@@ -1,12 +1,12 @@
 -- What each step of a walk keeps, over the lists of its fields.
 use Rattle.std.proofs.Common.{◌≡◌, ◌≢◌, ◌≤◌, ◌<◌, ◌+◌, ◌-◌, ◌⊎◌, ℕ, zero, suc, List, [], ◌∷◌, ◌++◌, length, get_or, inl, inr, refl, ap, sym, ◌∙◌, subst, arith, length-set, get_or-set_same, get_or-set_other}
 use Rattle.std.specs.List.{Contains}
-use Rattle.std.specs.Prelude.{map, replicate, slice_set as set}
+use Rattle.std.specs.Prelude.{map, replicate, reverse, slice_set as set}
 use Rattle.std.proofs.lemmas.Bool.{cases_lt, cases_eq}
 use Rattle.std.proofs.lemmas.List.Sums.{sum_by-set}
-use Rattle.std.proofs.lemmas.List.{get_or_append_left, get_or_push, get_or_default, get_or_past, get_or-map, get_or-replicate, length-map, length-replicate, length_push, nil_from_length}
+use Rattle.std.proofs.lemmas.List.{get_or_append_left, get_or_push, get_or_default, get_or_past, get_or-map, get_or-replicate, length-map, length-replicate, length_push, nil_from_length, reverse-append}
 use Rattle.std.proofs.lemmas.List.Elements.{Contains-get_or, Contains-push, Contains-push_cases, Contains-append_left}
-use Rattle.lp_order.specs.Order.{row_of, Reads, ReadsBelow, Reaches, one_read, more_reads, HasLoop, HasOrder}
+use Rattle.lp_order.specs.Order.{row_of, Reads, ReadsBelow, Reaches, one_read, more_reads, HasLoop, IsOrder}
 use Rattle.lp_order.specs.Walk.{mark_of, moves_left, IsPath, IsWalkOf, IsWalk, IsDone, IsLast, IsFrom, Steps, Finishes}
 use Rattle.lp_order.specs.declared.walk.Walk.{Walk}
 use Rattle.lp_order.specs.declared.walk.Mark.{Mark}
@@ -65,8 +65,8 @@ IsPath-pop graph path top p i h =
     rw (get_or_append_left path (top ∷ []) 0 i low, get_or_append_left path (top ∷ []) 0 (i + 1) h) at (p i (omega (arith, length_push path top)))
 
 -- the walk reaches a new key
-pub IsWalk-open : (graph : List (List ℕ)) (unread : List ℕ) (marks : List Mark) (path : List ℕ) (key : ℕ) → IsWalkOf graph unread marks path → key < length graph → mark_of marks key ≡ New → (0 < length path → Reads graph (get_or path (length path - 1) 0) key) → IsWalkOf graph unread (set marks key Open) (path ++ key ∷ [])
-IsWalk-open graph unread marks path key w inside new reads =
+pub IsWalk-open : (graph : List (List ℕ)) (unread : List ℕ) (marks : List Mark) (path order : List ℕ) (key : ℕ) → IsWalkOf graph unread marks path order → key < length graph → mark_of marks key ≡ New → (0 < length path → Reads graph (get_or path (length path - 1) 0) key) → IsWalkOf graph unread (set marks key Open) (path ++ key ∷ []) order
+IsWalk-open graph unread marks path order key w inside new reads =
     let in_marks : key < length marks = omega (arith, w.marked) in
     let not_done : mark_of marks key ≢ Done = λ e. cc in
     record {
@@ -80,7 +80,6 @@ IsWalk-open graph unread marks path key w inside new reads =
       ];
       within = w.within;
       followed = λ k i h low high. IsDone-set_other marks key Open (get_or (row_of graph k) i 0) not_done (w.followed k i h low high);
-      order = w.order;
       ordered = w.ordered;
       in_order = λ k e. elim (mark_of-set_cases marks key Open k Done in_marks e) [
         | inl this ↦ let no : Open ≡ Done = this.1 in cc
@@ -89,8 +88,8 @@ IsWalk-open graph unread marks path key w inside new reads =
     }
 
 -- the walk leaves a key all of whose reads are followed
-pub IsWalk-close : (graph : List (List ℕ)) (unread : List ℕ) (marks : List Mark) (path : List ℕ) (top : ℕ) → IsWalkOf graph unread marks (path ++ top ∷ []) → top < length graph → get_or unread top 0 ≡ 0 → IsWalkOf graph unread (set marks top Done) path
-IsWalk-close graph unread marks path top w inside none =
+pub IsWalk-close : (graph : List (List ℕ)) (unread : List ℕ) (marks : List Mark) (path order : List ℕ) (top : ℕ) → IsWalkOf graph unread marks (path ++ top ∷ []) order → top < length graph → get_or unread top 0 ≡ 0 → IsWalkOf graph unread (set marks top Done) path (top ∷ order)
+IsWalk-close graph unread marks path order top w inside none =
     let in_marks : top < length marks = omega (arith, w.marked) in
     record {
       counted = w.counted;
@@ -108,7 +107,6 @@ IsWalk-close graph unread marks path top w inside none =
       ];
       within = w.within;
       followed = λ k i h low high. IsDone-set_done marks top (get_or (row_of graph k) i 0) in_marks (w.followed k i h low high);
-      order = top ∷ w.order;
       ordered = (
         (λ b r. w.in_order b (
             let read : get_or (row_of graph top) r.0 0 ≡ b = get_or_default (row_of graph top) r.0 0 b r.1 ∙ r.2 in
@@ -116,14 +114,14 @@ IsWalk-close graph unread marks path top w inside none =
         w.ordered,
       );
       in_order = λ k e. elim (mark_of-set_cases marks top Done k Done in_marks e) [
-        | inl this ↦ Contains-first top w.order k (sym this.0)
-        | inr other ↦ Contains-behind top w.order k (w.in_order k other)
+        | inl this ↦ Contains-first top order k (sym this.0)
+        | inr other ↦ Contains-behind top order k (w.in_order k other)
       ];
     }
 
 -- the walk passes over a read of a key that is done
-pub IsWalk-skip : (graph : List (List ℕ)) (unread : List ℕ) (marks : List Mark) (path : List ℕ) (top left : ℕ) → IsWalkOf graph unread marks path → top < length graph → get_or unread top 0 ≡ left → 0 < left → mark_of marks (get_or (row_of graph top) (left - 1) 0) ≡ Done → IsWalkOf graph (set unread top (left - 1)) marks path
-IsWalk-skip graph unread marks path top left w inside is some done =
+pub IsWalk-skip : (graph : List (List ℕ)) (unread : List ℕ) (marks : List Mark) (path order : List ℕ) (top left : ℕ) → IsWalkOf graph unread marks path order → top < length graph → get_or unread top 0 ≡ left → 0 < left → mark_of marks (get_or (row_of graph top) (left - 1) 0) ≡ Done → IsWalkOf graph (set unread top (left - 1)) marks path order
+IsWalk-skip graph unread marks path order top left w inside is some done =
     let in_unread : top < length unread = omega (arith, w.counted) in
     let now : get_or (set unread top (left - 1)) top 0 ≡ left - 1 = get_or-set_same unread top (left - 1) 0 in_unread in
     record {
@@ -145,7 +143,6 @@ IsWalk-skip graph unread marks path top left w inside is some done =
               | inr behind ↦ w.followed k i h (rw (same, is) (omega arith)) high
             ]
       ];
-      order = w.order;
       ordered = w.ordered;
       in_order = w.in_order;
     }
@@ -158,8 +155,8 @@ IsPath-reaches graph path p i (suc d) h =
     more_reads (p i (omega arith)) (subst (λ j. Reaches graph (get_or path (i + 1) 0) (get_or path j 0)) same (IsPath-reaches graph path p (i + 1) d (omega arith)))
 
 -- the last key of the path reads a key on the path
-pub IsWalk-loop : (graph : List (List ℕ)) (unread : List ℕ) (marks : List Mark) (path : List ℕ) (top read : ℕ) → IsWalkOf graph unread marks path → get_or path (length path - 1) 0 ≡ top → mark_of marks read ≡ Open → Reads graph top read → HasLoop graph
-IsWalk-loop graph unread marks path top read w last is_open reads =
+pub IsWalk-loop : (graph : List (List ℕ)) (unread : List ℕ) (marks : List Mark) (path order : List ℕ) (top read : ℕ) → IsWalkOf graph unread marks path order → get_or path (length path - 1) 0 ≡ top → mark_of marks read ≡ Open → Reads graph top read → HasLoop graph
+IsWalk-loop graph unread marks path order top read w last is_open reads =
     let there = w.on_path read is_open in
     let at : get_or path there.0 0 ≡ read = get_or_default path there.0 0 read there.1 ∙ there.2 in
     elim (cases_lt (there.0 + 1) (length path)) [
@@ -180,15 +177,16 @@ module _ (graph : List (List ℕ)) (old new : Walk) (top : ℕ) (w : IsWalk grap
   pub IsLast-below : top < length graph
   IsLast-below = subst (λ key. key < length graph) at_end.last (w.below (length old.path.items - 1) (omega (arith, at_end.some)))
 
-  pub Steps-close : get_or old.unread.items top 0 ≡ 0 → new.unread.items ≡ old.unread.items → new.marks.items ≡ set old.marks.items top Done → old.path.items ≡ new.path.items ++ top ∷ [] → Steps graph old new
-  Steps-close none u m p =
+  pub Steps-close : get_or old.unread.items top 0 ≡ 0 → new.unread.items ≡ old.unread.items → new.marks.items ≡ set old.marks.items top Done → old.path.items ≡ new.path.items ++ top ∷ [] → new.done.items ≡ old.done.items ++ top ∷ [] → Steps graph old new
+  Steps-close none u m p d =
       let in_marks : top < length old.marks.items = omega (arith, w.marked, IsLast-below) in
-      let w' : IsWalkOf graph old.unread.items old.marks.items (new.path.items ++ top ∷ []) = subst (IsWalkOf graph old.unread.items old.marks.items) p w in
+      let w' : IsWalkOf graph old.unread.items old.marks.items (new.path.items ++ top ∷ []) (reverse old.done.items) = subst (λ path. IsWalkOf graph old.unread.items old.marks.items path (reverse old.done.items)) p w in
+      let left : reverse new.done.items ≡ top ∷ reverse old.done.items = ap reverse d ∙ reverse-append old.done.items (top ∷ []) in
       let same = sum_by-set moves_left old.marks.items top Done New in_marks in
       let longer = ap length p ∙ length_push new.path.items top in
       let done : IsDone new top = rw m (get_or-set_same old.marks.items top Done New in_marks) in
       record {
-        walk = rw (u, m) (IsWalk-close graph old.unread.items old.marks.items new.path.items top w' IsLast-below none);
+        walk = rw (u, m, left) (IsWalk-close graph old.unread.items old.marks.items new.path.items (reverse old.done.items) top w' IsLast-below none);
         nearer = rw (u, m) (omega arith);
         keeps = λ k e. rw m (IsDone-set_done old.marks.items top k in_marks e);
         from = λ root f. record {
@@ -200,15 +198,15 @@ module _ (graph : List (List ℕ)) (old new : Walk) (top : ℕ) (w : IsWalk grap
         };
       }
 
-  pub Steps-open : (key : ℕ) → key < length graph → mark_of old.marks.items key ≡ New → Reads graph top key → new.unread.items ≡ old.unread.items → new.marks.items ≡ set old.marks.items key Open → new.path.items ≡ old.path.items ++ key ∷ [] → Steps graph old new
-  Steps-open key inside is_new reads u m p =
+  pub Steps-open : (key : ℕ) → key < length graph → mark_of old.marks.items key ≡ New → Reads graph top key → new.unread.items ≡ old.unread.items → new.marks.items ≡ set old.marks.items key Open → new.path.items ≡ old.path.items ++ key ∷ [] → new.done.items ≡ old.done.items → Steps graph old new
+  Steps-open key inside is_new reads u m p d =
       let in_marks : key < length old.marks.items = omega (arith, w.marked) in
       let not_done : mark_of old.marks.items key ≢ Done = λ e. cc in
       let same = sum_by-set moves_left old.marks.items key Open New in_marks in
       let weight : moves_left (mark_of old.marks.items key) ≡ 2 = ap moves_left is_new in
       let longer = ap length p ∙ length_push old.path.items key in
       record {
-        walk = rw (u, m, p) (IsWalk-open graph old.unread.items old.marks.items old.path.items key w inside is_new (λ some. subst (λ x. Reads graph x key) (sym at_end.last) reads));
+        walk = rw (u, m, p, d) (IsWalk-open graph old.unread.items old.marks.items old.path.items (reverse old.done.items) key w inside is_new (λ some. subst (λ x. Reads graph x key) (sym at_end.last) reads));
         nearer = rw (u, m) (omega arith);
         keeps = λ k e. rw m (IsDone-set_other old.marks.items key Open k not_done e);
         from = λ root f. record {
@@ -217,12 +215,12 @@ module _ (graph : List (List ℕ)) (old new : Walk) (top : ℕ) (w : IsWalk grap
         };
       }
 
-  pub Steps-skip : (left : ℕ) → get_or old.unread.items top 0 ≡ left → 0 < left → mark_of old.marks.items (get_or (row_of graph top) (left - 1) 0) ≡ Done → new.unread.items ≡ set old.unread.items top (left - 1) → new.marks.items ≡ old.marks.items → new.path.items ≡ old.path.items → Steps graph old new
-  Steps-skip left is some done u m p =
+  pub Steps-skip : (left : ℕ) → get_or old.unread.items top 0 ≡ left → 0 < left → mark_of old.marks.items (get_or (row_of graph top) (left - 1) 0) ≡ Done → new.unread.items ≡ set old.unread.items top (left - 1) → new.marks.items ≡ old.marks.items → new.path.items ≡ old.path.items → new.done.items ≡ old.done.items → Steps graph old new
+  Steps-skip left is some done u m p d =
       let in_unread : top < length old.unread.items = omega (arith, w.counted, IsLast-below) in
       let same = sum_by-set (λ n. n) old.unread.items top (left - 1) 0 in_unread in
       record {
-        walk = rw (u, m, p) (IsWalk-skip graph old.unread.items old.marks.items old.path.items top left w IsLast-below is some done);
+        walk = rw (u, m, p, d) (IsWalk-skip graph old.unread.items old.marks.items old.path.items (reverse old.done.items) top left w IsLast-below is some done);
         nearer = rw (u, m, p) (omega arith);
         keeps = λ k e. rw m e;
         from = λ root f. record {
@@ -254,7 +252,7 @@ row_lengths graph k =
           ∙ sym (ap (λ (row : List ℕ). length row) (get_or_past graph k [] high))
     ]
 
-pub IsWalk-new : (graph : List (List ℕ)) → IsWalkOf graph (map (λ (row : List ℕ). length row) graph) (replicate (length graph) New) []
+pub IsWalk-new : (graph : List (List ℕ)) → IsWalkOf graph (map (λ (row : List ℕ). length row) graph) (replicate (length graph) New) [] []
 IsWalk-new graph = record {
   counted = length-map graph (λ (row : List ℕ). length row);
   marked = length-replicate (length graph) New;
@@ -263,7 +261,6 @@ IsWalk-new graph = record {
   on_path = λ k e. let is_new = mark_of-replicate (length graph) k in let no : New ≡ Open = sym is_new ∙ e in cc;
   within = λ k. omega (arith, row_lengths graph k);
   followed = λ k i h low high. absurd (omega (arith, row_lengths graph k));
-  order = [];
   ordered = tt;
   in_order = λ k e. let is_new = mark_of-replicate (length graph) k in let no : New ≡ Done = sym is_new ∙ e in cc;
 }
@@ -274,13 +271,13 @@ pub record IsUnderway (graph : List (List ℕ)) (old new : Walk) (root : ℕ) : 
   pub from : IsFrom new root
   pub keeps : (key : ℕ) → IsDone old key → IsDone new key
 
-pub IsUnderway-open : (graph : List (List ℕ)) (old new : Walk) (root : ℕ) → IsWalk graph old → old.path.items ≡ [] → root < length graph → mark_of old.marks.items root ≡ New → new.unread.items ≡ old.unread.items → new.marks.items ≡ set old.marks.items root Open → new.path.items ≡ old.path.items ++ root ∷ [] → IsUnderway graph old new root
-IsUnderway-open graph old new root w start inside is_new u m p =
+pub IsUnderway-open : (graph : List (List ℕ)) (old new : Walk) (root : ℕ) → IsWalk graph old → old.path.items ≡ [] → root < length graph → mark_of old.marks.items root ≡ New → new.unread.items ≡ old.unread.items → new.marks.items ≡ set old.marks.items root Open → new.path.items ≡ old.path.items ++ root ∷ [] → new.done.items ≡ old.done.items → IsUnderway graph old new root
+IsUnderway-open graph old new root w start inside is_new u m p d =
     let not_done : mark_of old.marks.items root ≢ Done = λ e. cc in
     let empty : length old.path.items ≡ 0 = ap length start in
     let alone : new.path.items ≡ root ∷ [] = p ∙ ap (λ path. path ++ root ∷ []) start in
     record {
-      walk = rw (u, m, p) (IsWalk-open graph old.unread.items old.marks.items old.path.items root w inside is_new (λ some. absurd (omega arith)));
+      walk = rw (u, m, p, d) (IsWalk-open graph old.unread.items old.marks.items old.path.items (reverse old.done.items) root w inside is_new (λ some. absurd (omega arith)));
       from = record {
         first = λ some. ap (λ path. get_or path 0 0) alone;
         over = λ none. absurd (omega (arith, ap length alone));
@@ -323,11 +320,8 @@ pub record IsBackFrom (graph : List (List ℕ)) (new : Walk) (n : ℕ) : Type 0 
   pub back : new.path.items ≡ []
   pub done : (key : ℕ) → key < n → IsDone new key
 
-pub HasOrder-from_walk : (graph : List (List ℕ)) (new : Walk) (n : ℕ) → IsBackFrom graph new n → length graph ≤ n → HasOrder graph
-HasOrder-from_walk graph new n b all = (
-  b.walk.order,
-  record {
-    ordered = b.walk.ordered;
-    complete = λ key h. b.walk.in_order key (b.done key (omega arith));
-  },
-)
+pub IsOrder-from_walk : (graph : List (List ℕ)) (new : Walk) (n : ℕ) → IsBackFrom graph new n → length graph ≤ n → IsOrder graph (reverse new.done.items)
+IsOrder-from_walk graph new n b all = record {
+  ordered = b.walk.ordered;
+  complete = λ key h. b.walk.in_order key (b.done key (omega arith));
+}

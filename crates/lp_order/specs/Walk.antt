@@ -1,5 +1,5 @@
 -- What a walk along the reads of a graph keeps.
-use Rattle.std.specs.Prelude.{◌≡◌, ◌≤◌, ◌<◌, ◌+◌, ◌-◌, ℕ, List, [], length, sum, sum_by, Contains, slice_index, slice_index_or}
+use Rattle.std.specs.Prelude.{◌≡◌, ◌≤◌, ◌<◌, ◌+◌, ◌-◌, ℕ, List, [], length, reverse, sum, sum_by, Contains, slice_index, slice_index_or}
 use Rattle.lp_order.specs.Order.{row_of, Reads, IsOrdered}
 use Rattle.lp_order.specs.declared.walk.Mark.{Mark}
 use Rattle.lp_order.specs.declared.walk.Mark.TheVariants.{New, Open, Done}
@@ -14,7 +14,7 @@ abbrev pub IsPath : List (List ℕ) → List ℕ → Type 0
 IsPath graph path = (i : ℕ) → i + 1 < length path → Reads graph (slice_index path i) (slice_index path (i + 1))
 
 -- what the lists of a walk keep
-pub record IsWalkOf (graph : List (List ℕ)) (unread : List ℕ) (marks : List Mark) (path : List ℕ) : Type 0 where
+pub record IsWalkOf (graph : List (List ℕ)) (unread : List ℕ) (marks : List Mark) (path order : List ℕ) : Type 0 where
   pub counted : length unread ≡ length graph
   pub marked : length marks ≡ length graph
   pub below : (i : ℕ) → i < length path → slice_index path i < length graph
@@ -25,12 +25,11 @@ pub record IsWalkOf (graph : List (List ℕ)) (unread : List ℕ) (marks : List 
   -- a read that was followed leads to a key that is done
   pub followed : (key i : ℕ) → key < length graph → slice_index unread key ≤ i → i < length (row_of graph key) → mark_of marks (slice_index (row_of graph key) i) ≡ Done
   -- the keys that are done have an order
-  pub order : List ℕ
   pub ordered : IsOrdered graph order
   pub in_order : (key : ℕ) → mark_of marks key ≡ Done → Contains order key
 
 abbrev pub IsWalk : List (List ℕ) → Walk → Type 0
-IsWalk graph walk = IsWalkOf graph walk.unread.items walk.marks.items walk.path.items
+IsWalk graph walk = IsWalkOf graph walk.unread.items walk.marks.items walk.path.items (reverse walk.done.items)
 
 -- the key is done
 abbrev pub IsDone : Walk → ℕ → Type 0

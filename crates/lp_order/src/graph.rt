@@ -76,7 +76,7 @@ impl Graph {
         &self.flat[start..end]
     }
 
-    /// Whether each key that is read has a row, as [`is_ordered`](crate::is_ordered) requires.
+    /// Whether each key that is read has a row, as [`order_of`](crate::order_of) requires.
     pub fn is_closed(&self) -> bool
         ensures { IsTrue result ↔ ReadsBelow (length self.now) self.now }
     {

@@ -1,8 +1,8 @@
-//! Whether what reads what among numbered keys has an order, or a loop.
+//! An order of numbered keys by what reads what, or that there is a loop.
 #![tactic(auto)]
 
 mod graph;
 mod walk;
 
 pub use graph::Graph;
-pub use walk::is_ordered;
+pub use walk::{is_ordered, order_of};

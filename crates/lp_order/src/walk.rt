@@ -1,6 +1,6 @@
-ghost use Rattle.std.specs.Prelude.{◌≡◌, ◌<◌, [], ◌∷◌, ◌++◌, length, slice_set, vec_len, IfOk, MatchBool};
+ghost use Rattle.std.specs.Prelude.{◌≡◌, ◌<◌, [], ◌∷◌, ◌++◌, length, reverse, slice_set, vec_len, IfOk, MatchBool, MatchOption};
 ghost use Rattle.std.specs.Bool.{OnTrue, OnFalse};
-ghost use Rattle.lp_order.specs.Order.{ReadsBelow, HasOrder, HasLoop};
+ghost use Rattle.lp_order.specs.Order.{ReadsBelow, IsOrder, HasOrder, HasLoop};
 ghost use Rattle.lp_order.specs.Walk.{IsWalk, IsLast, Steps, Finishes};
 
 use crate::graph::Graph;
@@ -26,6 +26,8 @@ struct Walk {
     marks: Vec<Mark>,
     /// The keys that lead from a root to where the walk is, each of which reads the next.
     path: Vec<usize>,
+    /// The keys that are done, in the order in which the walk left them.
+    done: Vec<usize>,
 }
 
 impl Walk {
@@ -44,6 +46,7 @@ impl Walk {
             unread,
             marks,
             path: Vec::new(alloc),
+            done: Vec::with_capacity(alloc, count)?,
         })
     }
 
@@ -53,6 +56,7 @@ impl Walk {
         ensures unread { IfOk result (λ _. self.new.unread.items ≡ self.old.unread.items) }
         ensures marks { IfOk result (λ _. self.new.marks.items ≡ slice_set self.old.marks.items key Mark.Open) }
         ensures path { IfOk result (λ _. self.new.path.items ≡ self.old.path.items ++ key ∷ []) }
+        ensures done { IfOk result (λ _. self.new.done.items ≡ self.old.done.items) }
     {
         self.path.push(key)?;
         self.marks[key] = Mark::Open;
@@ -60,15 +64,18 @@ impl Walk {
     }
 
     /// Takes the last key, `top`, off the path, for good.
-    fn close(&mut self, top: usize)
+    fn close(&mut self, top: usize) -> Result<(), NoMemory>
         requires marked { top < vec_len self.old.marks }
         requires last { IsLast self.old.path.items top }
-        ensures unread { self.new.unread.items ≡ self.old.unread.items }
-        ensures marks { self.new.marks.items ≡ slice_set self.old.marks.items top Mark.Done }
-        ensures path { self.old.path.items ≡ self.new.path.items ++ top ∷ [] }
+        ensures unread { IfOk result (λ _. self.new.unread.items ≡ self.old.unread.items) }
+        ensures marks { IfOk result (λ _. self.new.marks.items ≡ slice_set self.old.marks.items top Mark.Done) }
+        ensures path { IfOk result (λ _. self.old.path.items ≡ self.new.path.items ++ top ∷ []) }
+        ensures done { IfOk result (λ _. self.new.done.items ≡ self.old.done.items ++ top ∷ []) }
     {
+        self.done.push(top)?;
         self.marks[top] = Mark::Done;
         let _ = self.path.pop();
+        Ok(())
     }
 
     /// Takes one step from the last key of the path, `top`: false where that closes a loop.
@@ -80,7 +87,7 @@ impl Walk {
     {
         let left = self.unread[top];
         if left == 0 {
-            self.close(top);
+            self.close(top)?;
             return Ok(true);
         }
         let read = graph.row(top)[left - 1] as usize;
@@ -118,6 +125,27 @@ impl Walk {
     }
 }
 
+/// The keys of the graph in an order in which each comes after all that it reads; none where some key reads
+/// itself, by one read or more.
+///
+/// Takes time and memory in proportion to the number of keys and reads.
+///
+/// # Errors
+///
+/// Only where memory is refused.
+pub fn order_of(alloc: Global, graph: &Graph) -> Result<Option<Vec<usize>>, NoMemory>
+    requires { ReadsBelow (length graph.now) graph.now }
+    ensures { IfOk result (λ o. MatchOption o (HasLoop graph.now) (λ keys. IsOrder graph.now (reverse keys.items))) }
+{
+    let mut walk = Walk::new(alloc, graph)?;
+    for root in 0..graph.len() {
+        if !walk.finish(graph, root)? {
+            return Ok(None);
+        }
+    }
+    Ok(Some(walk.done))
+}
+
 /// Whether the keys of the graph have an order in which each comes after all that it reads: if not, some
 /// key reads itself, by one read or more.
 ///
@@ -132,11 +160,5 @@ pub fn is_ordered(alloc: Global, graph: &Graph) -> Result<bool, NoMemory>
     ensures loop_free { IfOk result (λ b. OnTrue b (¬ HasLoop graph.now)) }
     ensures looped { IfOk result (λ b. OnFalse b (HasLoop graph.now)) }
 {
-    let mut walk = Walk::new(alloc, graph)?;
-    for root in 0..graph.len() {
-        if !walk.finish(graph, root)? {
-            return Ok(false);
-        }
-    }
-    Ok(true)
+    Ok(order_of(alloc, graph)?.is_some())
 }

@@ -12,7 +12,7 @@ fn entries_of_large_tables_are_small(rt: HostRuntime) {
         ("Edge", size_of::<Edge>(), 16),
         ("PinNet", size_of::<PinNet>(), 8),
         ("Leaf", size_of::<Leaf>(), 16),
-        ("Inst", size_of::<Inst>(), 16),
+        ("Inst", size_of::<Inst>(), 20),
         ("Bits", size_of::<Bits>(), 16),
         ("Connection", size_of::<Connection>(), 24),
         ("Instance", size_of::<Instance>(), 40),

@@ -12,4 +12,4 @@ returns-clause-walk c =
     c.loop-key.invariant ∙ ap (map (λ (row : List ℕ). length row)) (take_all c.loop-key.key graph (omega arith)) in
     let marks : c.in_ok-marks.marks.items ≡ replicate c.len-count.result New = c.in_ok-marks.ensures.items_if_clones_equal (λ y e. e) in
     let all : c.len-count.result ≡ length graph = c.len-count.ensures in
-    rw (lengths, marks, all, c.new.ensures.items) (IsWalk-new graph)
+    rw (lengths, marks, all, c.new.ensures.items, c.in_ok-with_capacity.ensures.items) (IsWalk-new graph)

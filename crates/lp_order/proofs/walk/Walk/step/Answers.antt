@@ -23,23 +23,23 @@ mark_is c =
 pub returns-then-left-eq0 : goal.returns-then-left-eq0
 returns-then-left-eq0 c =
     let none = left_is (goal.at.returns-then-left-eq0 c).After-index-left ∙ c.if-left-eq0.true in
-    Steps-close c.args.graph.now c.args.self.now c.close.new.self c.args.top c.requires.walk c.requires.last none c.close.ensures.unread c.close.ensures.marks c.close.ensures.path
+    Steps-close c.args.graph.now c.args.self.now c.close.new.self c.args.top c.requires.walk c.requires.last none c.in_ok-close.ensures.unread c.in_ok-close.ensures.marks c.in_ok-close.ensures.path c.in_ok-close.ensures.done
 
 pub returns-in_ok-open-in-New : goal.returns-in_ok-open-in-New
 returns-in_ok-open-in-New c =
     let at = (goal.at.returns-in_ok-open-in-New c).After-index in
     let read = next at in
     let done = c.in_ok-open-in-New.ensures in
-    Steps-open c.args.graph.now c.args.self.now c.open.new.self c.args.top c.requires.walk c.requires.last _ read.1 (mark_is at ∙ c.in-New.is) read.2 done.unread (rw c.row.ensures at done.marks) (rw c.row.ensures at done.path)
+    Steps-open c.args.graph.now c.args.self.now c.open.new.self c.args.top c.requires.walk c.requires.last _ read.1 (mark_is at ∙ c.in-New.is) read.2 done.unread (rw c.row.ensures at done.marks) (rw c.row.ensures at done.path) done.done
 
 pub returns-in-Open : goal.returns-in-Open
 returns-in-Open c =
     let at = (goal.at.returns-in-Open c).After-index in
     let walk = c.args.self.now in
-    IsWalk-loop c.args.graph.now walk.unread.items walk.marks.items walk.path.items c.args.top _ c.requires.walk c.requires.last.last (mark_is at ∙ c.in-Open.is) (next at).2
+    IsWalk-loop c.args.graph.now walk.unread.items walk.marks.items walk.path.items _ c.args.top _ c.requires.walk c.requires.last.last (mark_is at ∙ c.in-Open.is) (next at).2
 
 pub returns-in-Done : goal.returns-in-Done
 returns-in-Done c =
     let at = (goal.at.returns-in-Done c).After-index in
     let left = c.index-left.result.now in
-    Steps-skip c.args.graph.now c.args.self.now _ c.args.top c.requires.walk c.requires.last left (left_is (goal.at.After-index at).After-index-left) (omega arith) (mark_is at ∙ c.in-Done.is) refl refl refl
+    Steps-skip c.args.graph.now c.args.self.now _ c.args.top c.requires.walk c.requires.last left (left_is (goal.at.After-index at).After-index-left) (omega arith) (mark_is at ∙ c.in-Done.is) refl refl refl refl
