@@ -1,7 +1,8 @@
 -- The expressions of Liberty attributes over the names that they may have (own rule).
-use Rattle.std.specs.Prelude.{◌≡◌, ℕ, ◌≤◌, Bool, nat_le, cond, List, length, Option, Some, None}
+use Rattle.std.specs.Prelude.{◌≡◌, ℕ, ◌≤◌, ◌<◌, Bool, true, false, nat_le, cond, List, length, Option, Some, None, MatchOption}
 use Rattle.std.specs.List.{list_all}
-use Rattle.lp_text.specs.Texts.{has_text}
+use Rattle.lp_text.specs.declared.names.NameId.{NameId}
+use Rattle.lp_text.specs.Texts.{has_text, text_at}
 use Rattle.lp_expr.specs.declared.dialect.Dialect.TheVariants.{Liberty}
 use Rattle.lp_expr.specs.Machine.{Reading, Stopped, Whole, read_in, start}
 use Rattle.lp_expr.specs.Grammar.{Spells, meaning}
@@ -32,13 +33,22 @@ pub record IsKept (text : List ℕ) (e : ExprView) : Type 0 where
   pub steps : e.steps ≡ postfix (number_in (occurring (meaning spells.tree))) (meaning spells.tree)
   pub few : length e.variables ≤ 12
 
+-- each text is among those that may stand
+abbrev pub may_stand : List (List ℕ) → List (List ℕ) → Bool
+may_stand names texts = list_all (λ n. has_text n names) texts
+
 -- the expression, where each of its names is among these
 abbrev pub standing : List (List ℕ) → Option ExprView → Option ExprView
 standing names None = None
-standing names (Some e) = cond (list_all (λ n. has_text n names) e.variables) (Some e) None
+standing names (Some e) = cond (may_stand names e.variables) (Some e) None
 
 abbrev pub expression_over : List (List ℕ) → List ℕ → Option ExprView
 expression_over names text = standing names (expression_of text)
+
+-- the number of a text in a table, where the text is among those that may stand
+abbrev pub FindsStanding : List (List ℕ) → List (List ℕ) → List ℕ → Option NameId → Type 0
+FindsStanding table names text found =
+    MatchOption found (has_text text names ≡ false) (λ id. (has_text text names ≡ true) × (id.0 < length table) × (text_at table id.0 ≡ text))
 
 -- each text is in a table
 abbrev pub are_known : List (List ℕ) → List (List ℕ) → Bool

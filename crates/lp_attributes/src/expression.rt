@@ -1,11 +1,9 @@
-ghost use Rattle.std.specs.Prelude.{◌≡◌, ◌<◌, length, true, false, None, IfOk, IfSome, IsTrue, MatchOption};
-ghost use Rattle.std.specs.List.{list_all};
+ghost use Rattle.std.specs.Prelude.{◌≡◌, length, true, false, None, IfNone, IfOk, IfSome, IsTrue};
 ghost use Rattle.std.specs.Option.{option_map};
-ghost use Rattle.lp_text.specs.Texts.{has_text, text_at};
 ghost use Rattle.lp_model.specs.Agreement.{name_numbers, name_texts, numbers_below, option_numbers};
 ghost use Rattle.lp_model.specs.LibraryView.{expr_view, expr_numbers};
 ghost use Rattle.lp_expr.specs.declared.read.ExprFault.TheVariants as faults;
-ghost use Rattle.lp_attributes.specs.Expressions.{are_known, at_most_12, expression_over, standing};
+ghost use Rattle.lp_attributes.specs.Expressions.{FindsStanding, are_known, at_most_12, expression_over, may_stand, standing};
 
 use crate::names::text_of;
 use lp_expr::{Expr, ExprFault, Step, read_liberty};
@@ -22,8 +20,7 @@ const MOST: usize = 12;
 /// The number of a name in the table, where it is among the names that may stand.
 fn standing_name(names: &Names, stand: &Table, name: &str) -> Option<NameId>
     requires known { IsTrue (are_known names.now stand.now) }
-    ensures { MatchOption result (has_text name.now stand.now ≡ false) (λ id. (has_text name.now stand.now ≡ true)
-        × (id.0 < length names.now) × (text_at names.now id.0 ≡ name.now)) }
+    ensures { FindsStanding names.now stand.now name.now result }
 {
     match stand.find(name.as_bytes()) {
         None => None,
@@ -41,8 +38,8 @@ fn standing_names(
     variables: &[NameId],
 ) -> Result<Option<Vec<NameId>>, NoMemory>
     requires known { IsTrue (are_known names.now stand.now) }
-    ensures none { IfOk result (λ o. MatchOption o (list_all (λ n. has_text n stand.now) (name_texts own.now variables.now) ≡ false)
-        (λ ids. list_all (λ n. has_text n stand.now) (name_texts own.now variables.now) ≡ true)) }
+    ensures none { IfOk result (λ o. IfNone o (may_stand stand.now (name_texts own.now variables.now) ≡ false)) }
+    ensures some { IfOk result (λ o. IfSome o (λ ids. may_stand stand.now (name_texts own.now variables.now) ≡ true)) }
     ensures same { IfOk result (λ o. IfSome o (λ ids. name_texts names.now ids.items ≡ name_texts own.now variables.now)) }
     ensures below { IfOk result (λ o. IfSome o (λ ids. numbers_below (length names.now) (name_numbers ids.items) ≡ true)) }
 {

@@ -368,7 +368,7 @@ module _ (place : ℕ) (sc : Scope) (R P : List (List ℕ)) (few : length (kinds
 
   -- ---- the state and the saved copy
 
-  state_sound : (groups : List GroupView) (o : Option GroupView) → is_sound_state R P (option_map (state_by place sc groups) o) ≡ true
+  state_sound : (groups : List GroupView) (o : Option GroupView) → is_sound_state R P (option_map (λ g. state_by place sc g groups) o) ≡ true
   state_sound groups None = refl
   state_sound groups (Some g) =
       and_from _ _ (over_in R sc.signals signals (next_text g))
@@ -399,7 +399,7 @@ two [] = refl
 two (a ∷ []) = known_front (a ∷ []) ([] ∷ []) (a ∷ []) (known_self (a ∷ []))
 two (a ∷ b ∷ args) = known_self (a ∷ b ∷ [])
 
-state_known : (place : ℕ) (sc : Scope) (groups : List GroupView) (o : Option GroupView) (g : GroupView) → o ≡ Some g → are_known (state_names (option_map (state_by place sc groups) o)) (take 2 g.args) ≡ true
+state_known : (place : ℕ) (sc : Scope) (groups : List GroupView) (o : Option GroupView) (g : GroupView) → o ≡ Some g → are_known (state_names (option_map (λ g. state_by place sc g groups) o)) (take 2 g.args) ≡ true
 state_known place sc groups None g e = absurd (cc)
 state_known place sc groups (Some h) g e =
     let same : h ≡ g = cc in

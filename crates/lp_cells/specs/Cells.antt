@@ -9,6 +9,7 @@ use Rattle.lp_model.specs.declared.fault.refusal.Refusal.TheVariants as refusals
 use Rattle.lp_model.specs.declared.library.Cell.{Cell}
 use Rattle.lp_model.specs.declared.library.Library.{Library}
 use Rattle.lp_model.specs.Refusals.{library_refusal}
+use Rattle.lp_model.specs.declared.groups.Group.{Group}
 use Rattle.lp_model.specs.GroupsView.{GroupView}
 use Rattle.lp_model.specs.LibraryView.{PgPinView, PinView, CellView}
 use Rattle.lp_attributes.specs.Attributes.{value_of}
@@ -18,6 +19,7 @@ use Rattle.lp_parts.specs.Names.{pg_names, signal_names}
 use Rattle.lp_parts.specs.Pins.{Scope, pgs_of, pins_of, only, floats, is_primary_power, is_primary_ground}
 use Rattle.lp_parts.specs.Roles.{roles_of, is_switch}
 use Rattle.lp_parts.specs.States.{state_of}
+use Rattle.lp_parts.specs.Views.{by_texts, group_views}
 use Rattle.lp_cells.specs.Reasons.{reason_of, repeated}
 
 abbrev pub scope_by : List (List ℕ) → List (List ℕ) → List PgPinView → Bool → Scope
@@ -59,6 +61,10 @@ cell_of place head groups = cell_by place (scope_of place head groups) head grou
 -- the cell of a group, if it is one
 unfoldable pub cell_at : List GroupView → ℕ → GroupView → List GroupView → List CellView
 cell_at all n g groups = if is_cell all g then cell_of n g (inside n groups) ∷ [] else []
+
+-- the same, from groups over a table of names
+abbrev pub cell_among : List (List ℕ) → List Group → ℕ → Group → List Group → List CellView
+cell_among texts all n g groups = by_texts (cell_at (group_views texts all) n) texts g groups
 
 -- the cells among groups that are numbered from a number
 abbrev pub cells_from : List GroupView → ℕ → List GroupView → List CellView

@@ -1,4 +1,5 @@
 pub mod Cells
 pub mod Reasons
 pub mod Sound
+pub mod Whole
 pub mod Laws

@@ -1,5 +1,5 @@
 -- Why a cell cannot be used (own rule): tests of its groups and of the cell that they make.
-use Rattle.std.specs.Prelude.{ℕ, Bool, true, false, not, ◌&&◌, ◌||◌, ◌==◌, nat_lt, nat_le, nat_eq, List, [], ◌∷◌, ◌++◌, length, map, Option, Some, None, is_some, is_none, if◌then◌else◌, codes, slice_get}
+use Rattle.std.specs.Prelude.{◌≡◌, Result, IfOk, ℕ, Bool, true, false, not, ◌&&◌, ◌||◌, ◌==◌, nat_lt, nat_le, nat_eq, List, [], ◌∷◌, ◌++◌, length, map, Option, Some, None, is_some, is_none, if◌then◌else◌, codes, slice_get}
 use Rattle.std.specs.List.{filter, list_any, list_all, starts_with}
 use Rattle.lp_text.specs.Texts.{has_text, place_of}
 use Rattle.lp_model.specs.declared.reason.Reason.{Reason}
@@ -17,6 +17,10 @@ use Rattle.lp_parts.specs.Functions.{is_power, is_ground, kinds_of, passed}
 use Rattle.lp_parts.specs.Pins.{Scope, kind_of, is_internal_power, is_primary_power, is_primary_ground, action_of, class_of, saves, restores}
 use Rattle.lp_parts.specs.Roles.{range_if_any, copy_of, is_retention, is_switch}
 use Rattle.lp_parts.specs.States.{is_pin, next_text, clock_text}
+
+-- a judgement, where there is memory for it, is this reason, or that there is none
+abbrev pub Judges : {E : Type 0} → Result (Option Reason) E → Option Reason → Type 0
+Judges result reason = IfOk result (λ r. r ≡ reason)
 
 -- ---- name
 

@@ -6,7 +6,8 @@ ghost use Rattle.lp_text.specs.Texts.{Grown, has_text, text_at, with_text};
 ghost use Rattle.lp_model.specs.GroupsView.{group_view, groups_view};
 ghost use Rattle.lp_model.specs.Agreement.{numbers_below};
 ghost use Rattle.lp_model.specs.LibraryView.{cell_numbers, cell_view, library_numbers, library_view};
-ghost use Rattle.lp_cells.specs.Cells.{GivesCells, IsLibrary, RefusesLibrary, cell_at, cell_names, cells_in, cells_of};
+ghost use Rattle.lp_cells.specs.Cells.{GivesCells, IsLibrary, RefusesLibrary, cell_among, cell_names, cells_in, cells_of};
+ghost use Rattle.lp_parts.specs.Views.{Adds};
 ghost use Rattle.lp_cells.specs.Reasons.{repeated};
 
 use crate::cell::cell_of;
@@ -31,8 +32,7 @@ fn push_cell(
     requires empty { IsTrue (has_text [] names.now) }
     requires below { numbers_below (length names.now) (flat_map cell_numbers out.old) ≡ true }
     ensures below { OnOk result (numbers_below (length names.now) (flat_map cell_numbers out.new) ≡ true) }
-    ensures same { OnOk result (map (cell_view names.now) out.new ≡ map (cell_view names.now) out.old
-        ++ cell_at (map (group_view names.now) all.now) place (group_view names.now head.now) (map (group_view names.now) more.now)) }
+    ensures same { OnOk result (Adds (cell_view names.now) out.old out.new (cell_among names.now all.now place head.now more.now)) }
 {
     if is_cell(names, all, head) {
         let groups = inside_of(names, place, more);

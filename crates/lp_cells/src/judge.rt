@@ -6,8 +6,8 @@ ghost use Rattle.lp_model.specs.Agreement.{name_texts};
 ghost use Rattle.lp_model.specs.GroupsView.{group_view};
 ghost use Rattle.lp_model.specs.LibraryView.{pin_view};
 ghost use Rattle.lp_parts.specs.Source.{arg_at};
-ghost use Rattle.lp_cells.specs.Reasons.{has_bad_name, has_bad_pg, has_construct, is_bus_name, is_free, is_visible, is_visible_byte, lacks_copy, lacks_pgs, late_reason, middle_reason, reason_by, reason_of, repeated};
-ghost use Rattle.lp_parts.specs.Views.{Knows, frame_view};
+ghost use Rattle.lp_cells.specs.Reasons.{Judges, has_bad_name, has_bad_pg, has_construct, is_bus_name, is_free, is_visible, is_visible_byte, lacks_copy, lacks_pgs, late_reason, middle_reason, reason_by, reason_of, repeated};
+ghost use Rattle.lp_parts.specs.Views.{Knows, by_frame};
 
 use crate::faulty::{any_bad_retention, any_unrelated, any_without_direction, any_without_kind};
 use crate::reading::all_read;
@@ -221,8 +221,7 @@ fn late_reason(
     pins: &[NameId],
 ) -> Result<Option<Reason>, NoMemory>
     requires { Knows names.now frame.now }
-    ensures { IfOk result (λ r. r
-        ≡ late_reason place (frame_view names.now frame.now) (group_view names.now head.now) (map (group_view names.now) groups.now) (name_texts names.now pins.now)) }
+    ensures { Judges result (by_frame (late_reason place) names.now frame.now head.now groups.now (name_texts names.now pins.now)) }
 {
     if !all_read(alloc, names, place, frame, groups)? {
         return Ok(Some(Reason::Function));
@@ -257,8 +256,7 @@ fn middle_reason(
     pins: &[NameId],
 ) -> Result<Option<Reason>, NoMemory>
     requires { Knows names.now frame.now }
-    ensures { IfOk result (λ r. r
-        ≡ middle_reason place (frame_view names.now frame.now) (group_view names.now head.now) (map (group_view names.now) groups.now) (name_texts names.now pins.now)) }
+    ensures { Judges result (by_frame (middle_reason place) names.now frame.now head.now groups.now (name_texts names.now pins.now)) }
 {
     if has_bad_pg(alloc, names, place, head, groups, frame.pgs.as_slice())? {
         return Ok(Some(Reason::Pg));
@@ -285,8 +283,8 @@ fn reason_by(
 ) -> Result<Option<Reason>, NoMemory>
     requires empty { IsTrue (has_text [] names.now) }
     requires knows { Knows names.now frame.now }
-    ensures { IfOk result (λ r. r
-        ≡ reason_by place (frame_view names.now frame.now) (group_view names.now head.now) (map (group_view names.now) groups.now) (name_texts names.now pins.now) (name_texts names.now all.now)) }
+    ensures { Judges result (by_frame (reason_by place) names.now frame.now head.now groups.now
+        (name_texts names.now pins.now) (name_texts names.now all.now)) }
 {
     if has_bad_name(names, head, all) {
         return Ok(Some(Reason::Name));
@@ -309,8 +307,7 @@ pub(crate) fn reason_of(
 ) -> Result<Option<Reason>, NoMemory>
     requires empty { IsTrue (has_text [] names.now) }
     requires knows { Knows names.now frame.now }
-    ensures { IfOk result (λ r. r
-        ≡ reason_of place (frame_view names.now frame.now) (group_view names.now head.now) (map (group_view names.now) groups.now) (map (pin_view names.now) pins.now)) }
+    ensures { Judges result (by_frame (reason_of place) names.now frame.now head.now groups.now (map (pin_view names.now) pins.now)) }
 {
     let pin_ids = pin_ids(alloc, pins)?;
     let all_ids = all_ids(alloc, pins, &frame.pgs)?;

@@ -1,7 +1,7 @@
-ghost use Rattle.std.specs.Prelude.{◌≡◌, ℕ, ◌+◌, ◌<◌, ◌≤◌, Bool, map, take, drop, length, All, IsTrue, ◌↔◌};
+ghost use Rattle.std.specs.Prelude.{◌≡◌, ◌+◌, ◌<◌, ◌≤◌, map, length, All, IsTrue, ◌↔◌};
 ghost use Rattle.lp_expr.specs.Formula.{truth};
 ghost use Rattle.lp_expr.specs.Places.{digit_of, place_of};
-ghost use Rattle.lp_expr.specs.Table.{is_bit};
+ghost use Rattle.lp_expr.specs.Table.{AreOneFunction, is_bit};
 
 use crate::expr::Expr;
 
@@ -13,9 +13,7 @@ pub fn same(a: &Expr, b: &Expr, slots: &[u8], n: u8) -> bool
     requires slots { length slots.now ≡ length a.now.variables + length b.now.variables }
     requires below { All (λ slot. slot < n) slots.now }
     requires few { n ≤ 12 }
-    ensures { IsTrue result ↔ ((c : ℕ → Bool) →
-        truth a.now.steps (map c (take (length a.now.variables) slots.now))
-        ≡ truth b.now.steps (map c (drop (length a.now.variables) slots.now))) }
+    ensures { IsTrue result ↔ AreOneFunction a.now b.now slots.now }
 {
     let (front, back) = slots.split_at(a.count());
     for choice in 0..1 << n {

@@ -185,8 +185,12 @@ pin_of sc g name = record {
   use_of = use_of g;
 }
 
+-- a pin for each argument of a group
+abbrev pub pins_by : Scope → GroupView → List PinView
+pins_by sc g = map (pin_of sc g) g.args
+
 unfoldable pub pins_at : ℕ → Scope → GroupView → List PinView
-pins_at place sc g = if is_part place (codes "pin") g then map (pin_of sc g) g.args else []
+pins_at place sc g = if is_part place (codes "pin") g then pins_by sc g else []
 
 abbrev pub pins_of : ℕ → Scope → List GroupView → List PinView
 pins_of place sc groups = flat_map (pins_at place sc) groups

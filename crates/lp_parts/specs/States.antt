@@ -45,8 +45,13 @@ down_text place groups g = own_or (value_of (codes "power_down_function") g) (ou
 abbrev pub kind_of : GroupView → StateKind
 kind_of g = if is_flop g then kinds.Flop else kinds.Latch
 
-abbrev pub state_by : ℕ → Scope → List GroupView → GroupView → StateView
-state_by place sc groups g = record {
+-- the function of the power and ground pins under which a state group is lost
+abbrev pub power_down_of : ℕ → Scope → GroupView → List GroupView → ExprView
+power_down_of place sc g groups = down_of sc.pgs sc.names (down_text place groups g)
+
+-- the state of a state group, among the groups of its cell
+abbrev pub state_by : ℕ → Scope → GroupView → List GroupView → StateView
+state_by place sc g groups = record {
   kind = kind_of g;
   var = arg_at 0 g;
   inverse = arg_at 1 g;
@@ -54,9 +59,9 @@ state_by place sc groups g = record {
   clock = over_if_any sc.signals (clock_text g);
   clear = over_if_any sc.signals (value_of (codes "clear") g);
   preset = over_if_any sc.signals (value_of (codes "preset") g);
-  power_down = down_of sc.pgs sc.names (down_text place groups g);
+  power_down = power_down_of place sc g groups;
 }
 
 -- the first state group
 abbrev pub state_of : ℕ → Scope → List GroupView → Option StateView
-state_of place sc groups = option_map (state_by place sc groups) (find (is_state place) groups)
+state_of place sc groups = option_map (λ g. state_by place sc g groups) (find (is_state place) groups)

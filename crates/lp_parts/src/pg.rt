@@ -1,4 +1,4 @@
-ghost use Rattle.std.specs.Prelude.{◌≡◌, [], ◌++◌, length, true, IfOk, IsTrue, OnOk, map};
+ghost use Rattle.std.specs.Prelude.{◌≡◌, [], length, true, IfOk, IsTrue, OnOk, map};
 ghost use Rattle.std.specs.List.{flat_map};
 ghost use Rattle.std.specs.Option.{option_map};
 ghost use Rattle.lp_text.specs.Texts.{has_text};
@@ -7,6 +7,7 @@ ghost use Rattle.lp_model.specs.Agreement.{numbers_below, option_numbers};
 ghost use Rattle.lp_model.specs.LibraryView.{pg_pin_numbers, pg_pin_view, switched_numbers, switched_view};
 ghost use Rattle.lp_attributes.specs.Expressions.{are_known};
 ghost use Rattle.lp_parts.specs.Pins.{is_internal_power, kind_of, pg_of, pgs_at, pgs_of, switched_by, switched_of};
+ghost use Rattle.lp_parts.specs.Views.{Adds};
 
 use crate::function::{over_if_any, passed, small};
 use crate::source::{arg_of, is_part};
@@ -119,8 +120,7 @@ fn push_pg(
     requires signals { IsTrue (are_known names.now signals.now) }
     requires pgs { IsTrue (are_known names.now pgs.now) }
     requires below { numbers_below (length names.now) (flat_map pg_pin_numbers out.old) ≡ true }
-    ensures same { OnOk result (map (pg_pin_view names.now) out.new ≡ map (pg_pin_view names.now) out.old
-        ++ pgs_at place signals.now pgs.now (group_view names.now group.now)) }
+    ensures same { OnOk result (Adds (pg_pin_view names.now) out.old out.new (pgs_at place signals.now pgs.now (group_view names.now group.now))) }
     ensures below { OnOk result (numbers_below (length names.now) (flat_map pg_pin_numbers out.new) ≡ true) }
 {
     if is_part(names, place, group, "pg_pin") {

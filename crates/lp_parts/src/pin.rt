@@ -1,4 +1,4 @@
-ghost use Rattle.std.specs.Prelude.{◌≡◌, [], ◌++◌, length, true, Some, IfOk, IsTrue, OnOk, map};
+ghost use Rattle.std.specs.Prelude.{◌≡◌, [], length, true, Some, IfOk, IsTrue, OnOk, map};
 ghost use Rattle.std.specs.List.{flat_map};
 ghost use Rattle.std.specs.Option.{option_map};
 ghost use Rattle.lp_text.specs.Texts.{has_text, text_at};
@@ -6,8 +6,8 @@ ghost use Rattle.lp_model.specs.Agreement.{name_texts, numbers_below, option_num
 ghost use Rattle.lp_model.specs.GroupsView.{group_view};
 ghost use Rattle.lp_model.specs.LibraryView.{expr_numbers, expr_view, pin_numbers, pin_view};
 ghost use Rattle.lp_parts.specs.Functions.{small};
-ghost use Rattle.lp_parts.specs.Pins.{action_if, action_of, class_of, direction_of, function_of, ground_of, pin_of, pins_at, pins_of, power_down_of, power_of, related_by, restores, retention_use, saves, shift_use, use_of};
-ghost use Rattle.lp_parts.specs.Views.{Knows, frame_view};
+ghost use Rattle.lp_parts.specs.Pins.{action_if, action_of, class_of, direction_of, function_of, ground_of, pin_of, pins_at, pins_by, pins_of, power_down_of, power_of, related_by, restores, retention_use, saves, shift_use, use_of};
+ghost use Rattle.lp_parts.specs.Views.{Adds, Knows, frame_view};
 
 use crate::function::{down_of, function_if_any, small};
 use crate::naming::is_output;
@@ -226,13 +226,13 @@ fn pin_of(
 {
     let output = is_output(alloc, names, group)?;
     Ok(Pin {
-        function: function_of(alloc, names, frame, output, group)?,
-        power_down: power_down_of(alloc, names, frame, output, group)?,
         name: known(names, name),
         direction: direction_of(output),
         use_of: use_of(alloc, names, group)?,
         power: power_of(alloc, names, frame, group)?,
         gnd: ground_of(alloc, names, frame, group)?,
+        function: function_of(alloc, names, frame, output, group)?,
+        power_down: power_down_of(alloc, names, frame, output, group)?,
     })
 }
 
@@ -249,8 +249,7 @@ fn push_args(
     requires knows { Knows names.now frame.now }
     requires below { numbers_below (length names.now) (flat_map pin_numbers out.old) ≡ true }
     ensures below { OnOk result (numbers_below (length names.now) (flat_map pin_numbers out.new) ≡ true) }
-    ensures same { OnOk result (map (pin_view names.now) out.new ≡ map (pin_view names.now) out.old
-        ++ map (pin_of (frame_view names.now frame.now) (group_view names.now group.now)) (name_texts names.now group.now.args)) }
+    ensures same { OnOk result (Adds (pin_view names.now) out.old out.new (pins_by (frame_view names.now frame.now) (group_view names.now group.now))) }
 {
     for name in group.args.as_slice() {
         out.push(pin_of(alloc, names, frame, group, *name)?)?;
@@ -272,8 +271,7 @@ fn push_pins(
     requires knows { Knows names.now frame.now }
     requires below { numbers_below (length names.now) (flat_map pin_numbers out.old) ≡ true }
     ensures below { OnOk result (numbers_below (length names.now) (flat_map pin_numbers out.new) ≡ true) }
-    ensures same { OnOk result (map (pin_view names.now) out.new ≡ map (pin_view names.now) out.old
-        ++ pins_at place (frame_view names.now frame.now) (group_view names.now group.now)) }
+    ensures same { OnOk result (Adds (pin_view names.now) out.old out.new (pins_at place (frame_view names.now frame.now) (group_view names.now group.now))) }
 {
     if is_part(names, place, group, "pin") {
         push_args(alloc, names, frame, out, group)?;

@@ -7,6 +7,7 @@ ghost use Rattle.lp_model.specs.LibraryView.{expr_numbers, expr_view, roles_numb
 ghost use Rattle.lp_attributes.specs.Attributes.{values_of};
 ghost use Rattle.lp_attributes.specs.Expressions.{are_known};
 ghost use Rattle.lp_parts.specs.Roles.{copy_of, is_condition, is_retention, is_switch, range_if_any, retention_of, roles_of, shifter_of};
+ghost use Rattle.lp_parts.specs.Views.{by_texts};
 
 use crate::function::over_if_any;
 use crate::source::is_part;
@@ -100,8 +101,7 @@ fn retention_of(
     groups: &[Group],
 ) -> Result<Option<Expr>, NoMemory>
     requires known { IsTrue (are_known names.now pgs.now) }
-    ensures same { IfOk result (λ o. option_map (expr_view names.now) o
-        ≡ retention_of place pgs.now (group_view names.now head.now) (map (group_view names.now) groups.now)) }
+    ensures same { IfOk result (λ o. option_map (expr_view names.now) o ≡ by_texts (retention_of place pgs.now) names.now head.now groups.now) }
     ensures below { IfOk result (λ o. numbers_below (length names.now) (option_numbers expr_numbers o) ≡ true) }
 {
     if !is_retention(names, head) {
@@ -128,9 +128,9 @@ pub fn roles_of(
     ensures below { IfOk result (λ r. numbers_below (length names.now) (roles_numbers r) ≡ true) }
 {
     Ok(Roles {
-        retention: retention_of(alloc, names, place, pgs, head, groups)?,
         shifter: shifter_of(alloc, names, head)?,
         iso: says(alloc, names, head, "is_isolation_cell", "true")?,
         switch: is_switch(alloc, names, head)?,
+        retention: retention_of(alloc, names, place, pgs, head, groups)?,
     })
 }

@@ -8,8 +8,8 @@ ghost use Rattle.lp_model.specs.LibraryView.{expr_numbers, expr_view, state_numb
 ghost use Rattle.lp_attributes.specs.Attributes.{value_of};
 ghost use Rattle.lp_parts.specs.Functions.{over_if_any};
 ghost use Rattle.lp_parts.specs.Names.{is_state};
-ghost use Rattle.lp_parts.specs.States.{clock_text, down_text, is_flop, is_output_pin, is_pin, kind_of, next_text, output_down, state_by, state_of};
-ghost use Rattle.lp_parts.specs.Views.{Knows, frame_view};
+ghost use Rattle.lp_parts.specs.States.{clock_text, down_text, is_flop, is_output_pin, is_pin, kind_of, next_text, output_down, power_down_of, state_by, state_of};
+ghost use Rattle.lp_parts.specs.Views.{Knows, by_frame, frame_view, group_views};
 
 use crate::function::{down_of, over_if_any};
 use crate::naming::{is_output, is_state};
@@ -149,6 +149,43 @@ fn part_of(
     over_if_any(alloc, names, &frame.signals, &text)
 }
 
+/// The function of the data of a state group.
+fn next_of(alloc: Global, names: &Names, frame: &Frame, group: &Group) -> Result<Expr, NoMemory>
+    requires { Knows names.now frame.now }
+    ensures same { IfOk result (λ e. expr_view names.now e ≡ over_if_any frame.now.signals (next_text (group_view names.now group.now))) }
+    ensures below { IfOk result (λ e. numbers_below (length names.now) (expr_numbers e) ≡ true) }
+{
+    let text = next_text(alloc, names, group)?;
+    over_if_any(alloc, names, &frame.signals, &text)
+}
+
+/// The function of the clock or the enable of a state group.
+fn clock_of(alloc: Global, names: &Names, frame: &Frame, group: &Group) -> Result<Expr, NoMemory>
+    requires { Knows names.now frame.now }
+    ensures same { IfOk result (λ e. expr_view names.now e ≡ over_if_any frame.now.signals (clock_text (group_view names.now group.now))) }
+    ensures below { IfOk result (λ e. numbers_below (length names.now) (expr_numbers e) ≡ true) }
+{
+    let text = clock_text(alloc, names, group)?;
+    over_if_any(alloc, names, &frame.signals, &text)
+}
+
+/// The function of the power and ground pins under which a state group is lost.
+fn power_down_of(
+    alloc: Global,
+    names: &Names,
+    place: usize,
+    frame: &Frame,
+    groups: &[Group],
+    group: &Group,
+) -> Result<Expr, NoMemory>
+    requires { Knows names.now frame.now }
+    ensures same { IfOk result (λ e. expr_view names.now e ≡ by_frame (power_down_of place) names.now frame.now group.now groups.now) }
+    ensures below { IfOk result (λ e. numbers_below (length names.now) (expr_numbers e) ≡ true) }
+{
+    let text = down_text(alloc, names, place, groups, group)?;
+    down_of(alloc, names, &frame.names, frame.pgs.as_slice(), &text)
+}
+
 /// The state of a state group.
 #[tactic(auto, using(crate::proofs::Below::below_state))]
 fn state_by(
@@ -161,26 +198,18 @@ fn state_by(
 ) -> Result<StateGroup, NoMemory>
     requires empty { IsTrue (has_text [] names.now) }
     requires knows { Knows names.now frame.now }
-    ensures same { IfOk result (λ s. state_view names.now s
-        ≡ state_by place (frame_view names.now frame.now) (map (group_view names.now) groups.now) (group_view names.now group.now)) }
+    ensures same { IfOk result (λ s. state_view names.now s ≡ by_frame (state_by place) names.now frame.now group.now groups.now) }
     ensures below { IfOk result (λ s. numbers_below (length names.now) (state_numbers s) ≡ true) }
 {
-    let signals = &frame.signals;
-    let next = next_text(alloc, names, group)?;
-    let clock = clock_text(alloc, names, group)?;
-    let down = down_text(alloc, names, place, groups, group)?;
-    let next = over_if_any(alloc, names, signals, &next)?;
-    let clock = over_if_any(alloc, names, signals, &clock)?;
-    let power_down = down_of(alloc, names, &frame.names, frame.pgs.as_slice(), &down)?;
     Ok(StateGroup {
         kind: kind_of(names, group),
         var: arg_of(names, group, 0),
         inverse: arg_of(names, group, 1),
-        next,
-        clock,
+        next: next_of(alloc, names, frame, group)?,
+        clock: clock_of(alloc, names, frame, group)?,
         clear: part_of(alloc, names, frame, group, "clear")?,
         preset: part_of(alloc, names, frame, group, "preset")?,
-        power_down,
+        power_down: power_down_of(alloc, names, place, frame, groups, group)?,
     })
 }
 
@@ -206,7 +235,7 @@ pub fn state_of(
 ) -> Result<Option<StateGroup>, NoMemory>
     requires empty { IsTrue (has_text [] names.now) }
     requires knows { Knows names.now frame.now }
-    ensures same { IfOk result (λ o. option_map (state_view names.now) o ≡ state_of place (frame_view names.now frame.now) (map (group_view names.now) groups.now)) }
+    ensures same { IfOk result (λ o. option_map (state_view names.now) o ≡ state_of place (frame_view names.now frame.now) (group_views names.now groups.now)) }
     ensures below { IfOk result (λ o. numbers_below (length names.now) (option_numbers state_numbers o) ≡ true) }
 {
     match first_state(names, place, groups) {

@@ -9,3 +9,4 @@ mod places;
 pub use cells::CellIndex;
 pub use laws::numbers_are_texts;
 pub use nets::NetIndex;
+pub use places::Places;

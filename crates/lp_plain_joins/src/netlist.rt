@@ -1,12 +1,12 @@
-ghost use Rattle.std.specs.Prelude.{◌≡◌, ℕ, ◌+◌, ◌≤◌, true, length, map, flat_map, IfOk, ◌-◌};
+ghost use Rattle.std.specs.Prelude.{◌≡◌, ◌+◌, ◌-◌, ◌≤◌, true, length, map, flat_map, IfOk};
 ghost use Rattle.lp_text.specs.Limits.{most_names};
 ghost use Rattle.lp_text.specs.Texts.{Grown};
 ghost use Rattle.lp_model.specs.Agreement.{numbers_below};
-ghost use Rattle.lp_model.specs.LibraryView.{cell_numbers, cell_view};
+ghost use Rattle.lp_model.specs.LibraryView.{cell_numbers};
 ghost use Rattle.lp_model.specs.NetlistView.{module_numbers, module_view};
-ghost use Rattle.lp_spec_plain_module.specs.Netlists.{powered};
-ghost use Rattle.lp_spec_plain_netlist.specs.Flats.{flat_of};
+ghost use Rattle.lp_plain_index.specs.Cells.{cell_views};
 ghost use Rattle.lp_plain_joins.specs.Joins.{joined_instance, joined_module};
+ghost use Rattle.lp_plain_joins.specs.Supplied.{IsPowered};
 
 use crate::joins::{Supplies, joined_instance};
 use crate::ports::{add_ports, supply_port};
@@ -70,8 +70,7 @@ pub fn connect_all(
     requires cells { numbers_below (length names.old) (flat_map cell_numbers index.now) ≡ true }
     requires source { numbers_below (length names.old) (module_numbers source) ≡ true }
     requires room { length names.old ≤ most_names - 2 }
-    ensures supplied { IfOk result (λ w. (margin : ℕ) → module_view names.new w
-        ≡ powered (flat_of (map (cell_view names.old) index.now) (module_view names.old source) power.now gnd.now margin)) }
+    ensures supplied { IfOk result (λ w. IsPowered (cell_views names.old index.now) (module_view names.old source) power.now gnd.now (module_view names.new w)) }
     ensures numbers { IfOk result (λ w. numbers_below (length names.new) (module_numbers w) ≡ true) }
     ensures grown { Grown names.old names.new }
     ensures few { length names.new ≤ length names.old + 2 }

@@ -9,7 +9,7 @@ use Rattle.lp_model.specs.NetlistView.{BitView, NetBit, SelectBit, ConstBit, Por
 use Rattle.lp_model.specs.LibraryView.{ExprView, PgPinView, PinView, CellView}
 use Rattle.lp_spec_design.specs.Keys.{Name, Node, Inner, Outer, Fixed, PortBit, Source, CellPin, SwitchedPin, Environment, From, same_index}
 use Rattle.lp_spec_design.specs.Netlists as nets_of
-use Rattle.lp_spec_design.specs.Netlists.{Structure, first, instance_named, module_named, module_at, cell_at, bits_named, connected, is_input, indices}
+use Rattle.lp_spec_design.specs.Netlists.{Structure, first, instance_named, cell_at, bits_named, connected, is_input, indices}
 use Rattle.lp_spec_design.specs.Graph.{from_port, is_output_pin, touches, when, some_of, and_more, from_one, from_assign, numbered, in_module, ports_in, sources_of, source_of, pin_node}
 use Rattle.lp_spec_design.specs.Settled.{read_pin, function_of, node_at_pin}
 use Rattle.lp_spec_plain_module.specs.Tests.{is_pg_name, are_distinct}

@@ -1,5 +1,5 @@
 -- The rows of a module by the numbers of names in place of their texts.
-use Rattle.std.specs.Prelude.{ℕ, ◌==◌, Bool, true, false, ◌&&◌, List, [], ◌∷◌, ◌++◌, map, flat_map, replicate, length, Option, Some, None, option_to_list, option_and_then, if◌then◌else◌}
+use Rattle.std.specs.Prelude.{◌≡◌, ℕ, ◌==◌, Bool, true, false, ◌&&◌, List, [], ◌∷◌, ◌++◌, map, flat_map, replicate, length, Option, Some, None, option_to_list, option_and_then, if◌then◌else◌}
 use Rattle.lp_text.specs.declared.names.NameId.{NameId}
 use Rattle.lp_expr.specs.Formula.{Formula}
 use Rattle.lp_model.specs.declared.bits.Bit.{Bit}
@@ -99,8 +99,12 @@ abbrev pub net_entries : Option NameId → List ℕ → List Entry
 net_entries None row = []
 net_entries (Some n) row = (n.0, row) ∷ []
 
+-- the source of the net at the output pin of a name
+abbrev pub output_entries : List ℕ → List Pin → List Connection → ℕ → List Entry
+output_entries nets pins cs q = net_entries (net_at cs q) (output_row nets pins cs q)
+
 abbrev pub pin_entries : List ℕ → List Pin → List Connection → Pin → List Entry
-pin_entries nets pins cs q = if is_out q.direction then net_entries (net_at cs q.name.0) (output_row nets pins cs q.name.0) else []
+pin_entries nets pins cs q = if is_out q.direction then output_entries nets pins cs q.name.0 else []
 
 abbrev pub cell_entries : List ℕ → List Connection → Option Cell → List Entry
 cell_entries nets cs None = []
@@ -132,3 +136,7 @@ shown nets (Some d) = Some (driver_row nets d)
 
 abbrev pub all_shown : List ℕ → List (Option Driver) → List (Option (List ℕ))
 all_shown nets found = map (shown nets) found
+
+-- what was noted has these sources more
+abbrev pub Notes : List ℕ → List (Option Driver) → List (Option Driver) → List Entry → Type 0
+Notes nets old new more = all_shown nets new ≡ note_all nets (all_shown nets old) more

@@ -1,5 +1,5 @@
 ghost use Rattle.std.specs.Prelude.{◌≡◌, None, length, flat_map, replicate, IfOk};
-ghost use Rattle.lp_plain_loops.specs.Numbered.{named, net_at, driver_row, output_row, net_entries, pin_entries, instance_entries, port_entries, note, note_all, noted, all_shown};
+ghost use Rattle.lp_plain_loops.specs.Numbered.{named, driver_row, output_entries, pin_entries, instance_entries, port_entries, note, noted, all_shown, Notes};
 
 use crate::driver::Driver;
 use crate::pins::{named, net_at};
@@ -33,7 +33,7 @@ pub(crate) fn drivers<'a>(
 /// Notes that the inputs are driven from outside.
 fn note_inputs(nets: &NetIndex, found: &mut [Option<Driver<'_>>], ports: &[Port])
     requires { length found.old ≡ length nets.now }
-    ensures { all_shown nets.now found.new ≡ note_all nets.now (all_shown nets.now found.old) (flat_map port_entries ports.now) }
+    ensures { Notes nets.now found.old found.new (flat_map port_entries ports.now) }
 {
     for port in ports {
         if port.direction == Direction::Input {
@@ -50,7 +50,7 @@ fn note_instances<'a>(
     instances: &'a [Instance],
 )
     requires { length found.old ≡ length nets.now }
-    ensures { all_shown nets.now found.new ≡ note_all nets.now (all_shown nets.now found.old) (flat_map (instance_entries index.now nets.now) instances.now) }
+    ensures { Notes nets.now found.old found.new (flat_map (instance_entries index.now nets.now) instances.now) }
 {
     for instance in instances {
         if let Some(cell) = index.numbered(instance.target) {
@@ -66,8 +66,7 @@ fn note_pins<'a>(
     cell: &'a Cell,
 )
     requires { length found.old ≡ length nets.now }
-    ensures { all_shown nets.now found.new
-        ≡ note_all nets.now (all_shown nets.now found.old) (flat_map (pin_entries nets.now cell.now.pins (named instance.now.connections)) cell.now.pins) }
+    ensures { Notes nets.now found.old found.new (flat_map (pin_entries nets.now cell.now.pins (named instance.now.connections)) cell.now.pins) }
 {
     for pin in cell.pins.as_slice() {
         if pin.direction == Direction::Output {
@@ -85,9 +84,7 @@ fn note_pin<'a>(
     pin: NameId,
 )
     requires { length found.old ≡ length nets.now }
-    ensures { all_shown nets.now found.new
-        ≡ note_all nets.now (all_shown nets.now found.old)
-        (net_entries (net_at (named instance.now.connections) pin.0) (output_row nets.now cell.now.pins (named instance.now.connections) pin.0)) }
+    ensures { Notes nets.now found.old found.new (output_entries nets.now cell.now.pins (named instance.now.connections) pin.0) }
 {
     if let Some(net) = net_at(named(&instance.connections), pin) {
         note(nets, found, net, Driver::Pin(instance, cell, pin));

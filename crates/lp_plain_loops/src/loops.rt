@@ -1,14 +1,12 @@
-ghost use Rattle.std.specs.Prelude.{◌≡◌, ◌<◌, ◌+◌, ℕ, true, false, length, map, flat_map, IfOk};
+ghost use Rattle.std.specs.Prelude.{◌≡◌, ◌<◌, ◌+◌, true, length, flat_map, IfOk};
 ghost use Rattle.std.specs.Bool.{OnTrue, OnFalse};
 ghost use Rattle.lp_order.specs.Order as order;
 ghost use Rattle.lp_model.specs.Agreement.{numbers_below};
 ghost use Rattle.lp_model.specs.NetlistView.{module_view, module_numbers};
-ghost use Rattle.lp_model.specs.LibraryView.{cell_view, cell_numbers};
-ghost use Rattle.lp_spec_design.specs.Keys.{Name};
-ghost use Rattle.lp_spec_plain_netlist.specs.Single.{is_single_module};
-ghost use Rattle.lp_spec_plain_netlist.specs.Fits.{are_read, is_fit};
-ghost use Rattle.lp_spec_plain_netlist.specs.Flats.{flat_of, IsOrdered, HasLoop};
+ghost use Rattle.lp_model.specs.LibraryView.{cell_numbers};
+ghost use Rattle.lp_plain_index.specs.Cells.{cell_views};
 ghost use Rattle.lp_plain_loops.specs.Numbered.{rows};
+ghost use Rattle.lp_plain_loops.specs.Loops.{OrderedIfFit, LoopedIfFit};
 
 use crate::drivers::drivers;
 use crate::rows::graph_of;
@@ -67,17 +65,9 @@ pub fn has_loop(
     requires source { numbers_below (length names.now) (module_numbers source.now) ≡ true }
     requires small { length source.now.ports + length source.now.nets < 4294967295 }
     // No node does: the keys of the design have an order.
-    ensures ordered { IfOk result (λ b. OnFalse b ((power gnd : Name) (margin : ℕ)
-        → is_single_module (module_view names.now source.now) ≡ true
-        → are_read (map (cell_view names.now) index.now) (module_view names.now source.now) ≡ true
-        → is_fit (map (cell_view names.now) index.now) (module_view names.now source.now) ≡ true
-        → IsOrdered (flat_of (map (cell_view names.now) index.now) (module_view names.now source.now) power gnd margin))) }
+    ensures ordered { IfOk result (λ b. OnFalse b (OrderedIfFit (cell_views names.now index.now) (module_view names.now source.now))) }
     // Some node does.
-    ensures looped { IfOk result (λ b. OnTrue b ((power gnd : Name) (margin : ℕ)
-        → is_single_module (module_view names.now source.now) ≡ true
-        → are_read (map (cell_view names.now) index.now) (module_view names.now source.now) ≡ true
-        → is_fit (map (cell_view names.now) index.now) (module_view names.now source.now) ≡ true
-        → HasLoop (flat_of (map (cell_view names.now) index.now) (module_view names.now source.now) power gnd margin))) }
+    ensures looped { IfOk result (λ b. OnTrue b (LoopedIfFit (cell_views names.now index.now) (module_view names.now source.now))) }
 {
     let looped = is_looped(alloc, names.count(), index, source)?;
     Ok(looped)

@@ -18,6 +18,10 @@ abbrev pub slots_in : Ptr → ℕ → ℕ → List Spot
 slots_in p i zero = []
 slots_in p i (suc n) = (p, i) ∷ slots_in p (suc i) n
 
+-- the first n slots of a chunk
+abbrev pub slots_at : Ptr → ℕ → List Spot
+slots_at p n = slots_in p 0 n
+
 -- the slots of chunks, in their order
 abbrev pub spots_of : List Ptr → List Spot
 spots_of [] = []

@@ -1,8 +1,7 @@
 //! Two records of a pool, lent at once.
-ghost use Rattle.std.specs.Prelude.{◌≡◌, ◌≢◌, ◌<◌, length, slice_index_or};
+ghost use Rattle.std.specs.Prelude.{◌≡◌, ◌≢◌, ◌<◌, length};
 ghost use Rattle.std.specs.Borrow.{sem};
-ghost use Rattle.lp_pool.specs.Places.{IsSpot};
-ghost use Rattle.lp_pool.specs.PairLends.{sole, lends_pair};
+ghost use Rattle.lp_pool.specs.PairLends.{AreRecords, AreTwoPlaces, sole, lends_pair};
 
 use crate::key::Key;
 use crate::pool::Pool;
@@ -16,8 +15,7 @@ pub fn lend_pair<T>(row: &mut [Pool<T>], a: Key<T>, b: Key<T>) -> (&mut T, &mut 
     requires live { (a.place < length (sole row.old).items) × (b.place < length (sole row.old).items) }
     requires distinct { a.place ≢ b.place }
     ensures* lends { sem 𝓛 (lends_pair T.row row.entry a.place b.place result) }
-    ensures values { (result.0.now ≡ slice_index_or (sole row.old).items a.place result.0.now)
-        × (result.1.now ≡ slice_index_or (sole row.old).items b.place result.1.now) }
+    ensures values { AreRecords (sole row.old).items a.place result.0.now b.place result.1.now }
 {
     let first = row[0].base_of(a);
     let second = row[0].base_of(b);
@@ -31,10 +29,9 @@ fn lend_two<T>(
     second: Base<T>,
     b: usize,
 ) -> (&mut T, &mut T)
-    requires { (length row.old ≡ 1) × (a < length (sole row.old).items) × (b < length (sole row.old).items) × (a ≢ b)
-        × IsSpot (sole row.old).spots a first.ptr × IsSpot (sole row.old).spots b second.ptr }
+    requires { AreTwoPlaces row.old a first.ptr b second.ptr }
     ensures* lends { sem 𝓛 (lends_pair T.row row.entry a b result) }
-    ensures values { (result.0.now ≡ slice_index_or (sole row.old).items a result.0.now) × (result.1.now ≡ slice_index_or (sole row.old).items b result.1.now) }
+    ensures values { AreRecords (sole row.old).items a result.0.now b result.1.now }
 {
     unsafe {
         let x = first.ptr.add(a % CHUNK);

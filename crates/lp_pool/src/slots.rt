@@ -4,7 +4,7 @@ ghost use Rattle.std.specs.Borrow.{sem};
 ghost use Rattle.std.specs.Vec.Ownership.{FitsInBlock};
 ghost use base.Fml.{ftrue};
 ghost use denote.RawPtr.{Ptr};
-ghost use Rattle.lp_pool.specs.Places.{Spot, IsSpot, slots_in, chunk};
+ghost use Rattle.lp_pool.specs.Places.{Spot, IsSpot, slots_at, slots_in, chunk};
 ghost use Rattle.lp_pool.specs.Ownership.{records_own, records_lent, deed_owns};
 
 use std::alloc::{AllocError, Allocator};
@@ -87,7 +87,8 @@ pub(crate) fn deallocate<T, A: Allocator>(
     records: Records<T>,
     deed: Deed<T, A>,
 )
-    requires { (records.spots ≡ slots_in base.ptr 0 len) × (records.items ≡ []) × (deed.at ≡ base.ptr) × (deed.len ≡ len) × (deed.alloc ≡ alloc.now) × (len ≡ chunk) }
+    requires { (records.spots ≡ slots_at base.ptr len) × (records.items ≡ []) × (deed.at ≡ base.ptr) × (deed.len ≡ len)
+        × (deed.alloc ≡ alloc.now) × (len ≡ chunk) }
 {
     let Records { mark: _ } = records;
     let Deed { mark: _ } = deed;

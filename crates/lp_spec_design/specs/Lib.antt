@@ -12,3 +12,5 @@ pub mod Reads
 pub mod Registers
 pub mod Runs
 pub mod Sees
+pub mod Laws
+pub mod Texts

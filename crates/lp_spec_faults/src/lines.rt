@@ -14,8 +14,8 @@ pub fn a_line_has_its_first<T>()
 /// the line.
 #[tactic(auto, using(crate::proofs::Loops::stops))]
 pub fn stops_at_the_fault<T>()
-    ensures { (l : Line T) (before after : List T) (x : T) → l.places ≡ before ++ x ∷ after
-        → list_any l.test before ≡ false → l.test x ≡ true → first_of l ≡ Some x }
+    ensures { (l : Line T) (front back : List T) (x : T) → l.places ≡ front ++ x ∷ back
+        → list_any l.test front ≡ false → l.test x ≡ true → first_of l ≡ Some x }
 {}
 
 /// A loop that has gone past all places, at none of which the test holds, has shown that the line has no fault.

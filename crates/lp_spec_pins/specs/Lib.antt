@@ -4,3 +4,4 @@ pub mod Registers
 pub mod Supplied
 pub mod Runs
 pub mod Alike
+pub mod Laws

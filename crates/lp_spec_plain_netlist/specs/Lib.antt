@@ -1,3 +1,4 @@
 pub mod Single
 pub mod Fits
 pub mod Flats
+pub mod Laws

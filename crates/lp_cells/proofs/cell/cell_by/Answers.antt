@@ -1,7 +1,0 @@
-use Rattle.std.proofs.Common.{length}
-use Rattle.lp_cells.proofs.Below.{below_cell}
-use Rattle.lp_cells.proofs.cell.cell_by.Goals as goal
-
-pub returns-clause-below : goal.returns-clause-below
-returns-clause-below c =
-    below_cell (length c.args.names.now) c.arg_of-name.result.0 c.args.frame.pgs c.in_ok-pins.pins c.in_ok-state.state c.in_ok-roles.roles c.arg_of-name.ensures.below c.requires.knows.pgs c.in_ok-pins.ensures.below c.in_ok-state.ensures.below c.in_ok-roles.ensures.below
