@@ -8,7 +8,7 @@ use std::alloc::Global;
 use std::io;
 
 /// Commands, and the netlist that each is to write.
-const RUNS: [(&str, &str); 12] = [
+const RUNS: [(&str, &str); 14] = [
     (
         "insert --netlist block.v --upf block.upf --out whole.v --report whole.txt and2.lib",
         "whole.v",
@@ -48,6 +48,14 @@ const RUNS: [(&str, &str); 12] = [
     (
         "insert --netlist /dev/zero --upf block.upf --out f.v --report f.txt and2.lib",
         "f.v",
+    ),
+    (
+        "insert --netlist / --upf block.upf --out i.v --report i.txt and2.lib",
+        "i.v",
+    ),
+    (
+        "insert --netlist block.v --upf block.upf --out /dev/full --report j.txt and2.lib",
+        "/dev/full",
     ),
     (
         "insert --netlist block.v --upf block.upf --out missing/g.v --report g.txt and2.lib",

@@ -164,7 +164,7 @@ fn put_roles(out: &mut String, names: &Names, roles: &Roles) -> Result<(), Fail>
 }
 
 /// The word of the reason why a cell cannot be used.
-pub(crate) fn reason_word(cell: &Cell) -> &'static str {
+fn reason_word(cell: &Cell) -> &'static str {
     match cell.unusable {
         None => "usable",
         Some(reason) => reason.word(),

@@ -34,83 +34,55 @@ create_power_domain D -elements {.} -supply {primary S}
 add_port_state VDD -state {ON 1.0}
 ";
 
-const POWERED: &str = "module t (a, b, y, lp_v_VDD, lp_v_VSS);
-  input a;
-  input b;
-  output y;
-  input lp_v_VDD;
-  input lp_v_VSS;
-  AND2 g (.A(a), .B(b), .Y(y), .VDD(lp_v_VDD), .VSS(lp_v_VSS));
-endmodule
-";
-
-const REPORT: &str = "lpinsert report 1\ntotal iso 0 shift 0 ret 0 switch 0\n";
-
 const WORDS: &str = "insert --netlist n.v --upf u.upf --out o.v --report r.txt l.lib";
 
-/// What a run left on a shelf in memory.
-#[derive(Drop)]
-struct Ran {
-    status: u8,
-    calls: u64,
-    said: Vec<u8>,
-    netlist: Vec<u8>,
-    report: Vec<u8>,
-}
-
-fn words(alloc: Global, command: &str) -> Result<Vec<Word>, Fail> {
+fn words(alloc: Global) -> Result<Vec<Word>, Fail> {
     let mut words = Vec::new(alloc);
-    for text in command.split(' ') {
+    for text in WORDS.split(' ') {
         words.push(Word::new(String::from_str(alloc, text)?))?;
     }
     Ok(words)
 }
 
-fn held(alloc: Global, shelf: &MemShelf, name: &str) -> Result<Vec<u8>, Fail> {
-    match shelf.contents(name) {
-        Some(bytes) => Ok(Vec::from_slice(alloc, bytes)?),
-        None => Ok(Vec::new(alloc)),
-    }
+/// The status of a run.
+fn status_of(alloc: Global, words: &[Word], shelf: &mut MemShelf) -> u8 {
+    let outcome = run(alloc, words, shelf);
+    let status = status(&outcome);
+    drop(outcome);
+    status
 }
 
-fn left(alloc: Global, shelf: &MemShelf, status: u8) -> Result<Ran, Fail> {
-    Ok(Ran {
-        status,
-        calls: shelf.calls(),
-        said: Vec::from_slice(alloc, shelf.said_bytes())?,
-        netlist: held(alloc, shelf, "o.v")?,
-        report: held(alloc, shelf, "r.txt")?,
-    })
-}
-
-/// The outcome's status, on a shelf that has the three texts.
-fn run_on(alloc: Global, shelf: &mut MemShelf, command: &str) -> Result<u8, Fail> {
-    let words = words(alloc, command)?;
-    let outcome = run(alloc, &words, shelf);
-    Ok(status(&outcome))
-}
-
-/// The texts are the netlist, the power intent and the library; some calls of the shelf fail.
-fn run_with(alloc: Global, fail: &[u32], texts: [&str; 3], command: &str) -> Result<Ran, Fail> {
-    let mut shelf = MemShelf::new(alloc, fail)?;
+/// The texts are the netlist, the power intent and the library.
+fn fill(shelf: &mut MemShelf, texts: [&str; 3]) -> Result<(), Fail> {
     shelf.add_file("n.v", texts[0].as_bytes())?;
     shelf.add_file("u.upf", texts[1].as_bytes())?;
     shelf.add_file("l.lib", texts[2].as_bytes())?;
-    let status = run_on(alloc, &mut shelf, command)?;
-    let ran = left(alloc, &shelf, status);
-    drop(shelf);
-    ran
+    Ok(())
 }
 
-#[test]
-fn inserts_the_supplies_of_a_block(rt: HostRuntime) -> Result<(), Fail> {
-    let ran = run_with(rt.alloc(), &[], [NETLIST, INTENT, LIBRARY], WORDS)?;
-    assert_eq!(rt; ran.status, 0);
-    assert_eq!(rt; ran.netlist.as_slice(), POWERED.as_bytes());
-    assert_eq!(rt; ran.report.as_slice(), REPORT.as_bytes());
-    assert_eq!(rt; ran.said.as_slice(), b"".as_slice());
-    assert_eq!(rt; ran.calls, 5);
-    Ok(())
+/// What a run left: its status, what was said, and whether there is a netlist.
+fn left(alloc: Global, shelf: &MemShelf, status: u8) -> Result<String, Fail> {
+    let said = std::str::from_utf8(shelf.said_bytes())
+        .ok()
+        .ok_or("a text")?;
+    let written = shelf.contents("o.v").is_some();
+    Ok(format!(in alloc; "{status} {said}{written}")?)
+}
+
+fn ran_on(alloc: Global, shelf: &mut MemShelf, texts: [&str; 3]) -> Result<String, Fail> {
+    fill(shelf, texts)?;
+    let words = words(alloc)?;
+    let status = status_of(alloc, &words, shelf);
+    drop(words);
+    left(alloc, shelf, status)
+}
+
+/// A run on a shelf in memory.
+fn ran(alloc: Global, texts: [&str; 3]) -> Result<String, Fail> {
+    let mut shelf = MemShelf::new(alloc, &[])?;
+    let left = ran_on(alloc, &mut shelf, texts);
+    drop(shelf);
+    left
 }
 
 /// A piece of a text, and what stands there in its place.
@@ -137,6 +109,7 @@ const DOWN: &str = "power_down_function : \"!VDD + VSS\"";
 /// Changes of the netlist, the power intent and the library, and the line behind `lpinsert: `, which is empty where
 /// nothing is refused.
 const CASES: &[(Change, Change, Change, &str)] = &[
+    (SAME, SAME, SAME, ""),
     (("AND2", "OR9"), SAME, SAME, "F13 UnknownModule t g"),
     ((GATE, "  assign y = a;\n"), SAME, SAME, "F99 NotYet 4"),
     ((GATE, "  assign y = ;\n"), SAME, SAME, "F10 Syntax 4:14"),
@@ -203,67 +176,28 @@ const CASES: &[(Change, Change, Change, &str)] = &[
     (("AND2", "OR9"), ("1.0", "x"), SAME, "F13 UnknownModule t g"),
 ];
 
-fn changed(alloc: Global, text: &str, change: Change) -> Result<String, Fail> {
-    Ok(text.replace(alloc, change.0, change.1)?)
+/// A run on changed texts.
+fn ran_changed(alloc: Global, changes: [Change; 3]) -> Result<String, Fail> {
+    let netlist = NETLIST.replace(alloc, changes[0].0, changes[0].1)?;
+    let intent = INTENT.replace(alloc, changes[1].0, changes[1].1)?;
+    let library = LIBRARY.replace(alloc, changes[2].0, changes[2].1)?;
+    ran(alloc, [&netlist, &intent, &library])
+}
+
+/// What a run leaves that is refused by this line, or by none.
+fn wanted(alloc: Global, line: &str) -> Result<String, Fail> {
+    if line.is_empty() {
+        return Ok(format!(in alloc; "0 true")?);
+    }
+    Ok(format!(in alloc; "1 lpinsert: {line}\nfalse")?)
 }
 
 #[test]
 fn refuses_by_the_first_fault(rt: HostRuntime) -> Result<(), Fail> {
-    let alloc = rt.alloc();
     for (netlist, intent, library, line) in CASES {
-        let netlist = changed(alloc, NETLIST, *netlist)?;
-        let intent = changed(alloc, INTENT, *intent)?;
-        let library = changed(alloc, LIBRARY, *library)?;
-        let ran = run_with(alloc, &[], [&netlist, &intent, &library], WORDS)?;
-        if line.is_empty() {
-            assert_eq!(rt; ran.status, 0, "{netlist}{intent}");
-        } else {
-            let said = format!(in alloc; "lpinsert: {line}\n")?;
-            assert_eq!(rt; ran.status, 1, "{netlist}{intent}");
-            assert_eq!(rt; ran.said.as_slice(), said.as_bytes(), "{netlist}{intent}");
-            assert!(rt; ran.netlist.is_empty(), "{netlist}{intent}");
-        }
-    }
-    Ok(())
-}
-
-/// Calls that fail, the words, the status and the line.
-const OTHERWISE: &[(&[u32], &str, u8, &str)] = &[
-    (&[1], WORDS, 3, "cannot read file 1"),
-    (&[2], WORDS, 3, "cannot read file 2"),
-    (&[3], WORDS, 3, "cannot read file 10"),
-    (&[4], WORDS, 3, "cannot write file 3"),
-    (&[5], WORDS, 3, "cannot write file 4"),
-    (
-        &[],
-        "insert --netlist n.v --upf u.upf --out o.v l.lib",
-        2,
-        "usage form",
-    ),
-    (
-        &[],
-        "insert --netlist n.v --upf u.upf --out o.v --report o.v l.lib",
-        2,
-        "usage files",
-    ),
-    (
-        &[],
-        "insert --netlist n.v --upf u.upf --out o.v --report r.txt l.lib l.lib",
-        1,
-        "F03 DuplicateCell AND2",
-    ),
-];
-
-#[test]
-fn names_what_failed(rt: HostRuntime) -> Result<(), Fail> {
-    let alloc = rt.alloc();
-    for (fail, command, status, line) in OTHERWISE {
-        let ran = run_with(alloc, fail, [NETLIST, INTENT, LIBRARY], command)?;
-        let said = format!(in alloc; "lpinsert: {line}\n")?;
-        assert_eq!(rt; ran.status, *status, "{line}");
-        assert_eq!(rt; ran.said.as_slice(), said.as_bytes(), "{line}");
-        let whole = ran.netlist.as_slice() == POWERED.as_bytes();
-        assert_eq!(rt; whole, *line == "cannot write file 4", "{line}");
+        let got = ran_changed(rt.alloc(), [*netlist, *intent, *library])?;
+        let want = wanted(rt.alloc(), line)?;
+        assert_eq!(rt; got.as_str(), want.as_str());
     }
     Ok(())
 }

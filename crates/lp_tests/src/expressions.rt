@@ -122,14 +122,27 @@ pub(crate) fn byte_of_value(value: Tern) -> u8 {
     }
 }
 
-/// The value of an expression, where its variables have these values in their order.
-fn value_at(rt: &impl Abort, alloc: Global, e: &Expr, values: &[u8]) -> Result<u8, Fail> {
+/// The value of what was read, where its variables have these values in their order; `?` where it has no value.
+fn value_at(alloc: Global, read: &Result<Expr, ExprFault>, values: &[u8]) -> Result<u8, Fail> {
     let mut levels = Vec::new(alloc);
     for byte in values {
         levels.push(value_of_byte(*byte))?;
     }
-    assert_eq!(rt; levels.len(), e.variables().len());
-    Ok(byte_of_value(value(e, &levels)))
+    match read {
+        Ok(e) if e.variables().len() == levels.len() => Ok(byte_of_value(value(e, &levels))),
+        _ => Ok(b'?'),
+    }
+}
+
+/// The value of a text with a new table of names.
+fn value_of(rt: &impl Abort, alloc: Global, text: &str, values: &[u8]) -> Result<u8, Fail> {
+    let mut names = Names::new(alloc)?;
+    assert!(rt; names.count() == 0 && text.len() < 4096);
+    let read = read_liberty(alloc, &mut names, text);
+    let out = value_at(alloc, &read, values);
+    drop(read);
+    drop(names);
+    out
 }
 
 const VALUES: &[(&str, &[u8], u8)] = &[
@@ -152,10 +165,7 @@ const VALUES: &[(&str, &[u8], u8)] = &[
 #[test]
 fn gives_what_all_replacements_agree_on(rt: HostRuntime) -> Result<(), Fail> {
     for (text, values, want) in VALUES {
-        let mut names = Names::new(rt.alloc())?;
-        assert!(rt; names.count() == 0 && text.len() < 4096);
-        let e = read_liberty(rt.alloc(), &mut names, text)?;
-        let got = value_at(&rt, rt.alloc(), &e, values)?;
+        let got = value_of(&rt, rt.alloc(), text, values)?;
         assert_eq!(rt; got, *want, "{text}");
     }
     Ok(())

@@ -126,22 +126,30 @@ fn texts_have_groups(rt: HostRuntime) -> Result<(), Fail> {
     Ok(())
 }
 
-/// Groups within groups, and a group with a string of some bytes, quotes included.
+/// What groups within groups give.
+fn nested(alloc: Global, depth: usize) -> Result<String, Fail> {
+    let opened = "g (x)\n{".repeat(alloc, depth)?;
+    let closed = "}".repeat(alloc, depth)?;
+    let text = format!(in alloc; "{opened}{closed}")?;
+    reading(alloc, text.as_bytes())
+}
+
+/// What a group with a string of so many letters gives.
+fn long(alloc: Global, letters: usize) -> Result<String, Fail> {
+    let inside = "b".repeat(alloc, letters)?;
+    let text = format!(in alloc; "a(){{x:\"{inside}\";y z}}")?;
+    reading(alloc, text.as_bytes())
+}
+
 #[test]
 fn depth_and_length_have_limits(rt: HostRuntime) -> Result<(), Fail> {
-    let alloc = rt.alloc();
     for (depth, want) in [(64, "|g|x in 62 \n"), (65, "F02 65:2")] {
-        let opened = "g (x)\n{".repeat(alloc, depth)?;
-        let closed = "}".repeat(alloc, depth)?;
-        let text = format!(in alloc; "{opened}{closed}")?;
-        let got = reading(alloc, text.as_bytes())?;
+        let got = nested(rt.alloc(), depth)?;
         assert!(rt; got.ends_with(want), "{depth} groups");
     }
     for (letters, want) in [(1_048_574, "F01 1:1048586"), (1_048_575, "F02 1:7")] {
-        let inside = "b".repeat(alloc, letters)?;
-        let text = format!(in alloc; "a(){{x:\"{inside}\";y z}}")?;
-        let got = reading(alloc, text.as_bytes())?;
-        assert_eq!(rt; got.as_str(), want, "{letters} letters");
+        let got = long(rt.alloc(), letters)?;
+        assert!(rt; got.as_str() == want, "{letters} letters");
     }
     Ok(())
 }

@@ -1,13 +1,31 @@
 //! Cells of Liberty texts in lines (Liberty cell, pg_pin, pin, ff and latch groups).
-use crate::cells::{put_cell, reason_word};
+use crate::cells::put_cell;
 use lp_cells::library;
 use lp_liberty::read_groups;
-use lp_model::{Library, Refusal, write_line};
+use lp_model::{Groups, Library, Refusal, write_line};
 use lp_text::Names;
 use std::alloc::Global;
 use std::fmt::Write;
 use std::process::Abort;
 use std::test::Fail;
+
+/// Reads the groups of texts up to the first that is refused.
+fn add_groups(
+    rt: &impl Abort,
+    alloc: Global,
+    names: &mut Names,
+    texts: &[&str],
+    files: &mut Vec<Groups>,
+) -> Result<(), Refusal> {
+    for text in texts {
+        assert!(rt; names.count() < 1_000_000);
+        let groups = read_groups(alloc, names, 10, text.as_bytes())?;
+        if files.push(groups).is_err() {
+            return Err(Refusal::NoMemory);
+        }
+    }
+    Ok(())
+}
 
 /// Reads texts as a library.
 pub(crate) fn read(
@@ -15,17 +33,25 @@ pub(crate) fn read(
     alloc: Global,
     names: &mut Names,
     texts: &[&str],
-) -> Result<Result<Library, Refusal>, Fail> {
+) -> Result<Library, Refusal> {
     let mut files = Vec::new(alloc);
-    for text in texts {
-        assert!(rt; names.count() < 1_000_000);
-        match read_groups(alloc, names, 10, text.as_bytes()) {
-            Ok(groups) => files.push(groups)?,
-            Err(refusal) => return Ok(Err(refusal)),
-        }
-    }
+    let read = add_groups(rt, alloc, names, texts, &mut files);
+    let library = made(rt, alloc, names, read, files.as_slice());
+    drop(files);
+    library
+}
+
+/// The library of groups, where all were read.
+fn made(
+    rt: &impl Abort,
+    alloc: Global,
+    names: &mut Names,
+    read: Result<(), Refusal>,
+    files: &[Groups],
+) -> Result<Library, Refusal> {
+    read?;
     assert!(rt; names.count() < 1_000_000);
-    Ok(library(alloc, names, files.as_slice()))
+    library(alloc, names, files)
 }
 
 /// The cells in lines, or the line of the fault.
@@ -55,7 +81,7 @@ fn lines(
 /// The cells of texts in lines, or the line of the fault.
 fn cells_of(rt: &impl Abort, alloc: Global, texts: &[&str]) -> Result<String, Fail> {
     let mut names = Names::new(alloc)?;
-    let read = read(rt, alloc, &mut names, texts)?;
+    let read = read(rt, alloc, &mut names, texts);
     let out = lines(rt, alloc, &names, &read);
     drop(read);
     drop(names);
@@ -363,43 +389,34 @@ const REASONS: &[(&str, &str)] = &[
     ("pin(A){direction:input;save_condition:A;}", "construct"),
 ];
 
-/// Why the one cell of a library cannot be used.
-fn reason_in(read: &Result<Library, Refusal>) -> &'static str {
-    match read {
-        Ok(library) => match library.cells.as_slice() {
-            [cell] => reason_word(cell),
-            _ => "another number of cells",
-        },
-        Err(_) => "refused",
-    }
-}
-
-fn reason_of(rt: &impl Abort, alloc: Global, parts: &str) -> Result<&'static str, Fail> {
+/// A cell with a power pin, a ground pin and these parts, in lines: the first has its reason.
+fn cell_with(rt: &impl Abort, alloc: Global, parts: &str) -> Result<String, Fail> {
     let text = format!(in alloc;
         "library (l) {{ cell (X) {{ pg_pin(VDD){{pg_type:primary_power;}} pg_pin(VSS){{pg_type:primary_ground;}} {parts} }} }}"
     )?;
-    let mut names = Names::new(alloc)?;
-    let read = read(rt, alloc, &mut names, &[text.as_str()])?;
-    let reason = reason_in(&read);
-    drop(read);
-    drop(names);
-    Ok(reason)
+    cells_of(rt, alloc, &[text.as_str()])
+}
+
+/// A cell with so many input pins, in lines.
+fn cell_of_pins(rt: &impl Abort, alloc: Global, count: u32) -> Result<String, Fail> {
+    let mut parts = String::from_str(alloc, "pin (")?;
+    for number in 0..count {
+        write!(parts, "p{number} ")?;
+    }
+    parts.push_str(") { direction : input; }")?;
+    cell_with(rt, alloc, &parts)
 }
 
 #[test]
 fn cells_have_reasons(rt: HostRuntime) -> Result<(), Fail> {
     for (parts, want) in REASONS {
-        let got = reason_of(&rt, rt.alloc(), parts)?;
-        assert_eq!(rt; got, *want, "of {parts}");
+        let got = cell_with(&rt, rt.alloc(), parts)?;
+        let first = format!(in rt.alloc(); "X 0 {want}\n")?;
+        assert!(rt; got.starts_with(first.as_str()), "of {parts}");
     }
-    for (count, want) in [(240, "usable"), (241, "construct")] {
-        let mut parts = String::from_str(rt.alloc(), "pin (")?;
-        for number in 0..count {
-            write!(parts, "p{number} ")?;
-        }
-        parts.push_str(") { direction : input; }")?;
-        let got = reason_of(&rt, rt.alloc(), &parts)?;
-        assert_eq!(rt; got, want, "of {count} pins");
-    }
+    let most = cell_of_pins(&rt, rt.alloc(), 240)?;
+    assert!(rt; most.starts_with("X 0 usable\n"), "of 240 pins");
+    let more = cell_of_pins(&rt, rt.alloc(), 241)?;
+    assert!(rt; more.starts_with("X 0 construct\n"), "of 241 pins");
     Ok(())
 }

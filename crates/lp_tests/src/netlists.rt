@@ -110,13 +110,14 @@ const WRITTEN: &[(&str, &str)] = &[
     ),
 ];
 
+/// The layout of each text, which is its own layout.
 #[test]
 fn texts_are_laid_out(rt: HostRuntime) -> Result<(), Fail> {
     for (text, want) in WRITTEN {
-        let first = rewritten(&rt, rt.alloc(), text)?;
-        assert_eq!(rt; first.all(), want.as_bytes(), "{text}");
-        let second = rewritten(&rt, rt.alloc(), want)?;
-        assert_eq!(rt; second.all(), want.as_bytes(), "{text} once more");
+        for source in [text, want] {
+            let got = rewritten(&rt, rt.alloc(), source)?;
+            assert_eq!(rt; got.all(), want.as_bytes(), "{source}");
+        }
     }
     Ok(())
 }
