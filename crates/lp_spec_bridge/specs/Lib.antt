@@ -1,0 +1,14 @@
+pub mod Tables
+pub mod Edges
+pub mod Keyed
+pub mod Represents
+pub mod Walks
+pub mod Elaborates
+pub mod Driven
+pub mod Names
+pub mod Templates
+pub mod Inherited
+pub mod Noted
+pub mod Inputs
+pub mod Readers
+pub mod Laws
