@@ -1,0 +1,33 @@
+pub mod Apart
+pub mod Bits
+pub mod ByCells
+pub mod ByEnds
+pub mod Chains
+mod Computed
+mod Premises
+pub mod Decided
+pub mod Driven
+pub mod Found
+pub mod Frame
+pub mod Framed
+pub mod Joined
+pub mod KnownEnds
+pub mod OperatorCells
+pub mod OperatorsShow
+pub mod PinEnds
+pub mod PinsDriven
+pub mod Placed
+pub mod RegistersKept
+pub mod Roles
+pub mod Runs
+pub mod Reading
+pub mod SourceCells
+pub mod SourcesShow
+pub mod SwitchesShow
+pub mod Supplied
+pub mod SwitchDrivers
+pub mod ToIntent
+pub mod ToPins
+pub mod Tops
+pub mod Ways
+pub mod Whole

@@ -1,0 +1,4 @@
+pub mod Alike
+pub mod Cells
+pub mod Faultless
+pub mod Laws
