@@ -1,7 +1,7 @@
-mod Computed
-mod ComputedRoutes
+pub mod Computed
+pub mod ComputedRoutes
 mod ComputedShared
-mod ComputedSupplies
+pub mod ComputedSupplies
 mod Digits
 mod Implemented
 mod Shapes

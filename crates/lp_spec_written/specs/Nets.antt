@@ -33,12 +33,12 @@ bits_at i all = some_of (λ x. when (same_index x.0 i) x.1) all
 abbrev pub connected_at : Structure → BoundaryBit → InstanceView → List BitView
 connected_at s b y = bits_at b.index (pairs (indices b.port.range) (connected (ports_of (module_named s y.target)) b.port.name y.connections))
 
+abbrev pub stood_at : Structure → BoundaryBit → Path → List BitView
+stood_at s b [] = []
+stood_at s b (i ∷ x) = unwrap_or (option_and_then (λ (m : ModuleView). option_and_then (λ y. Some (connected_at s b y)) (instance_named m i)) (module_at s x)) []
+
 abbrev pub stood : Structure → BoundaryBit → List BitView
-stood s b = by b.path
-  where
-    by : Path → List BitView
-    by [] = []
-    by (i ∷ x) = unwrap_or (option_and_then (λ (m : ModuleView). option_and_then (λ y. Some (connected_at s b y)) (instance_named m i)) (module_at s x)) []
+stood s b = stood_at s b b.path
 
 -- ---- stretches: the operators of a boundary bit that stand in one instance, with their nets
 

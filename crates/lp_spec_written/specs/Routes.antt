@@ -80,13 +80,13 @@ crossing_wire made k own c =
 abbrev pub parts_by : List Part → Node → Path → Path → Path → List Part
 parts_by made k own c x = parts_at k PortOut (up_to own c) ++ (crossing_wire made k own c ++ parts_at k PortIn (up_to x c))
 
+abbrev pub parts_to : List Part → Path → Node → List Part
+parts_to made x (Inner n i own) = parts_by made (Inner n i own) own (common own x) x
+parts_to made x (Outer n i) = []
+parts_to made x (Fixed b) = []
+
 abbrev pub parts_of : List Part → Route → List Part
-parts_of made r = by r.0
-  where
-    by : Node → List Part
-    by (Inner n i own) = parts_by made r.0 own (common own r.1) r.1
-    by (Outer n i) = []
-    by (Fixed b) = []
+parts_of made r = parts_to made r.1 r.0
 
 -- each part is made once
 abbrev pub new_among : List Part → List Part → List Part
@@ -108,13 +108,13 @@ parts_in all x = numbered 0 (filter (λ (y : Part). same_path y.path x) all)
 abbrev pub control_net : ℕ → Name
 control_net k = with_number (codes "lp_c_") k
 
+abbrev pub port_of_kind : ℕ → Kind → Option PortView
+port_of_kind k PortOut = Some (scalar (control_net k) Output)
+port_of_kind k Between = None
+port_of_kind k PortIn = Some (scalar (control_net k) Input)
+
 abbrev pub control_port : ℕ × Part → Option PortView
-control_port y = by y.1.kind
-  where
-    by : Kind → Option PortView
-    by PortOut = Some (scalar (control_net y.0) Output)
-    by Between = None
-    by PortIn = Some (scalar (control_net y.0) Input)
+control_port y = port_of_kind y.0 y.1.kind
 
 abbrev pub control_ports : List Part → Path → List PortView
 control_ports all x = some_of control_port (parts_in all x)

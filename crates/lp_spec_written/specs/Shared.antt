@@ -41,13 +41,13 @@ abbrev pub named : List ModuleView → Name → Option ModuleView
 named modules n = first (λ (m : ModuleView). bytes_eq m.name n) modules
 
 -- two targets are modules of equal content, or one cell
+abbrev pub same_found : (ModuleView → ModuleView → Bool) → Name → Name → Option ModuleView → Option ModuleView → Bool
+same_found same m n (Some a) (Some b) = same a b
+same_found same m n None None = bytes_eq m n
+same_found same m n _ _ = false
+
 abbrev pub same_target : (ModuleView → ModuleView → Bool) → List ModuleView → Name → Name → Bool
-same_target same modules m n = by (named modules m) (named modules n)
-  where
-    by : Option ModuleView → Option ModuleView → Bool
-    by (Some a) (Some b) = same a b
-    by None None = bytes_eq m n
-    by _ _ = false
+same_target same modules m n = same_found same m n (named modules m) (named modules n)
 
 abbrev pub same_instance : (ModuleView → ModuleView → Bool) → List ModuleView → InstanceView → InstanceView → Bool
 same_instance same modules x y = bytes_eq x.name y.name && (same_target same modules x.target y.target && same_connections x.connections y.connections)
@@ -67,20 +67,20 @@ same_content modules (suc depth) a b =
 abbrev pub first_of_content : List ModuleView → ModuleView → Option ModuleView
 first_of_content modules m = first (λ (k : ModuleView). same_content modules 64 k m) modules
 
+abbrev pub is_named_as : ModuleView → Option ModuleView → Bool
+is_named_as m None = true
+is_named_as m (Some k) = bytes_eq k.name m.name
+
 abbrev pub is_first : List ModuleView → ModuleView → Bool
-is_first modules m = by (first_of_content modules m)
-  where
-    by : Option ModuleView → Bool
-    by None = true
-    by (Some k) = bytes_eq k.name m.name
+is_first modules m = is_named_as m (first_of_content modules m)
 
 -- a target that is a module is the first of its content
+abbrev pub or_name : Name → Option ModuleView → Name
+or_name n None = n
+or_name n (Some k) = k.name
+
 abbrev pub shared_name : List ModuleView → Name → Name
-shared_name modules n = by (option_and_then (first_of_content modules) (named modules n))
-  where
-    by : Option ModuleView → Name
-    by None = n
-    by (Some k) = k.name
+shared_name modules n = or_name n (option_and_then (first_of_content modules) (named modules n))
 
 abbrev pub shared_module : List ModuleView → ModuleView → ModuleView
 shared_module modules m = record m { instances = map (λ (x : InstanceView). record x { target = shared_name modules x.target }) m.instances }

@@ -33,12 +33,12 @@ kept_at a place = first (λ (k : Kept). same_placed k.place place) a.registers
 abbrev pub cell_for : Project → Plan → Placed → Option CellView
 cell_for p a place = or_cell (cell_of p.structure place) (kept_at a place)
 
+abbrev pub pins_of_cell : Project → Placed → Option CellView → List (Name × ℕ)
+pins_of_cell p place None = []
+pins_of_cell p place (Some c) = joined_pins c (joins_of_source p place c)
+
 abbrev pub source_pins : Project → Plan → Placed → List (Name × ℕ)
-source_pins p a place = by (cell_for p a place)
-  where
-    by : Option CellView → List (Name × ℕ)
-    by None = []
-    by (Some c) = joined_pins c (joins_of_source p place c)
+source_pins p a place = pins_of_cell p place (cell_for p a place)
 
 abbrev pub operator_pins : Project → Standing → List (Name × ℕ)
 operator_pins p o = joined_pins o.cell (joins_of_operator p o.path o.asked.operator o.cell)
@@ -107,12 +107,12 @@ switch_port all w x = if goes_out all w x then Some (scalar (switch_net w) Outpu
 abbrev pub switch_of : Plan → ℕ → Option Switching
 switch_of a o = first (λ (w : Switching). w.asked.origin == o) a.switches
 
+abbrev pub port_by_kind : Project → Plan → List Use → Path → ℕ → Origin → Option PortView
+port_by_kind p a all x o FromPort = when (has_port_of all o x) (scalar (port_of_origin p o) Input)
+port_by_kind p a all x o (FromSwitch input control high) = option_and_then (λ w. switch_port all w x) (switch_of a o)
+
 abbrev pub origin_port : Project → Plan → List Use → Path → ℕ × Origin → Option PortView
-origin_port p a all x o = by o.1
-  where
-    by : Origin → Option PortView
-    by FromPort = when (has_port_of all o.0 x) (scalar (port_of_origin p o.0) Input)
-    by (FromSwitch input control high) = option_and_then (λ w. switch_port all w x) (switch_of a o.0)
+origin_port p a all x o = port_by_kind p a all x o.0 o.1
 
 -- lp_v and lp_w, in the order of the origins
 abbrev pub supply_ports : Project → Plan → List Use → Path → List PortView
@@ -130,13 +130,13 @@ abbrev pub joined_to : Name → List BitView → ConnectionView
 joined_to n bits = record { port = n; bits = bits }
 
 -- an origin goes by one name in every instance
+abbrev pub bits_by_kind : Project → ℕ → Option Origin → Option Switching → List BitView
+bits_by_kind p o (Some FromPort) w = NetBit (port_of_origin p o) ∷ []
+bits_by_kind p o (Some (FromSwitch input control high)) (Some w) = NetBit (switch_net w) ∷ []
+bits_by_kind p o _ _ = []
+
 abbrev pub origin_bits : Project → Plan → ℕ → List BitView
-origin_bits p a o = by (slice_get (network_of p).origins o) (switch_of a o)
-  where
-    by : Option Origin → Option Switching → List BitView
-    by (Some FromPort) w = NetBit (port_of_origin p o) ∷ []
-    by (Some (FromSwitch input control high)) (Some w) = NetBit (switch_net w) ∷ []
-    by _ _ = []
+origin_bits p a o = bits_by_kind p o (slice_get (network_of p).origins o) (switch_of a o)
 
 abbrev pub supply_connections : Project → Plan → List (Name × ℕ) → List ConnectionView
 supply_connections p a pins = map (λ q. joined_to q.0 (origin_bits p a q.1)) pins

@@ -82,12 +82,12 @@ written_cell_instance p a x y =
           ++ supply_connections p a.plan (source_pins p a.plan place)));
     }
 
+abbrev pub written_by_target : Project → Additions → Path → InstanceView → Option ModuleView → InstanceView
+written_by_target p a x y (Some m) = written_module_instance p a x y m
+written_by_target p a x y None = written_cell_instance p a x y
+
 abbrev pub written_instance : Project → Additions → Path → InstanceView → InstanceView
-written_instance p a x y = by (module_named p.structure y.target)
-  where
-    by : Option ModuleView → InstanceView
-    by (Some m) = written_module_instance p a x y m
-    by None = written_cell_instance p a x y
+written_instance p a x y = written_by_target p a x y (module_named p.structure y.target)
 
 -- ---- added instances
 
