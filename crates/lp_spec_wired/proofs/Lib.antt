@@ -1,0 +1,12 @@
+mod Added
+mod Apart
+mod Chains
+mod Computed
+mod Controls
+mod Down
+mod Inputs
+mod Kept
+mod Led
+mod Lists
+mod Samples
+mod Supplies
