@@ -1,0 +1,7 @@
+pub mod Names
+pub mod Lists
+pub mod Modules
+pub mod Paths
+pub mod Netlists
+pub mod Cells
+pub mod Operators
