@@ -1,0 +1,16 @@
+-- Which modules the instances of a module are of, by their places (IEEE 1364-2005, hierarchical structures).
+use Rattle.std.specs.Prelude.{ℕ, List, map, Option, Some, None}
+use Rattle.lp_spec_design.specs.Graph.{some_of}
+use Rattle.lp_targets.specs.declared.target.Target.{Target}
+use Rattle.lp_targets.specs.declared.target.Target.TheVariants.{OfModule, OfCell}
+
+abbrev pub module_place : Target → Option ℕ
+module_place (OfModule k) = Some k
+module_place (OfCell k) = None
+
+abbrev pub children_of : List Target → List ℕ
+children_of row = some_of module_place row
+
+-- for each module the places of the modules in it
+abbrev pub children : List (List Target) → List (List ℕ)
+children rows = map children_of rows

@@ -1,0 +1,7 @@
+pub mod Structures
+pub mod Reports
+pub mod Targets
+pub mod Numbered
+pub mod Marks
+pub mod Children
+pub mod Laws

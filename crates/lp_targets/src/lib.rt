@@ -1,0 +1,18 @@
+//! What each instance of a netlist is of, by place, or the first fault of names and targets.
+#![tactic(auto)]
+
+mod index;
+mod laws;
+mod order;
+mod reserved;
+mod resolve;
+mod rows;
+mod target;
+mod tops;
+mod unknown;
+
+pub use laws::{loop_means_recursion, order_means_no_recursion};
+pub use order::modules_in_order;
+pub use resolve::targets_of;
+pub use target::Target;
+pub use tops::one_top;
