@@ -42,7 +42,7 @@ use Rattle.lp_spec_agreement.proofs.Placed.{standing, distinct_left, distinct_ri
 
 -- ---- lines without a fault
 
-none_passes : {A : Type 0} (t : A → Bool) (a : A) (xs : List A) → list_any t xs ≡ false → IsIn a xs → t a ≡ false
+pub none_passes : {A : Type 0} (t : A → Bool) (a : A) (xs : List A) → list_any t xs ≡ false → IsIn a xs → t a ≡ false
 none_passes t a xs none h = by (t a) refl
   where
     by : (b : Bool) → t a ≡ b → b ≡ false

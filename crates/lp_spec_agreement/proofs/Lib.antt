@@ -1,19 +1,22 @@
 pub mod Apart
+pub mod Asked
 pub mod Bits
 pub mod ByCells
 pub mod ByEnds
 pub mod Chains
 mod Computed
-mod Premises
+pub mod Premises
 pub mod Decided
 pub mod Driven
 pub mod Found
 pub mod Frame
 pub mod Framed
 pub mod Joined
+pub mod Kept
 pub mod KnownEnds
 pub mod OperatorCells
 pub mod OperatorsShow
+pub mod Orders
 pub mod PinEnds
 pub mod PinsDriven
 pub mod Placed
@@ -21,6 +24,7 @@ pub mod RegistersKept
 pub mod Roles
 pub mod Runs
 pub mod Reading
+pub mod Shifted
 pub mod SourceCells
 pub mod SourcesShow
 pub mod SwitchesShow

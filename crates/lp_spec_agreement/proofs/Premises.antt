@@ -1,14 +1,23 @@
--- A small project with a clamp has none of the faults that bear on values, as far as these are computed, and a netlist realises it.
-use Rattle.std.proofs.Common.{◌≡◌, ℕ, zero, suc, arith, true, List, [], ◌∷◌, ◌++◌, Some, None, inl, inr, refl, sym, ap, subst}
-use Rattle.std.specs.Prelude.{codes, ◌≤◌, ◌<◌, All}
+-- A small project with a clamp has none of the faults that bear on values, a netlist realises it, and so their runs meet.
+use Rattle.std.proofs.Common.{◌≡◌, ◌≤◌, ℕ, zero, suc, arith, true, ◌&&◌, ◌==◌, List, [], ◌∷◌, ◌++◌, length, Some, None, inl, inr, refl, sym, ap, subst}
+use Rattle.std.proofs.lemmas.Bool.{and_parts}
+use Rattle.std.specs.Prelude.{codes, ◌<◌, All, if◌then◌else◌}
+use Rattle.lp_tern.specs.declared.tern.Tern.TheVariants.{Zero}
+use Rattle.lp_tern.specs.declared.supply.SupplyState.TheVariants as powers_of
 use Rattle.lp_model.specs.declared.intent.DeclaredState.{DeclaredState}
 use Rattle.lp_model.specs.declared.supply.Row.{Row}
 use Rattle.lp_model.specs.declared.intent.DeclaredState.TheVariants.{On, Off}
+use Rattle.lp_model.specs.declared.fault.netlist.NetlistLimit.TheVariants as depths
 use Rattle.lp_rows.specs.Network.{IsNetwork, IsRow, IsSetOf, declared_voltage, port_states, input_of, root_of, ends_at_port}
 use Rattle.lp_model.specs.declared.netlist.Direction.TheVariants.{Input}
 use Rattle.lp_model.specs.declared.supply.SetOrigins.{SetOrigins}
 use Rattle.lp_model.specs.NetlistView.{ModuleView}
 use Rattle.lp_model.specs.LibraryView.{CellView}
+use Rattle.lp_spec_settling.specs.Settling.{HasOrder}
+use Rattle.lp_spec_design.specs.Keys.{Name, Path, Inner, Outer}
+use Rattle.lp_spec_design.specs.Netlists.{module_at}
+use Rattle.lp_spec_design.specs.Settled.{Design, Event, Key, At, Of}
+use Rattle.lp_spec_design.specs.Reads.{keys, reads}
 use Rattle.lp_spec_design.specs.Winners.{IsIn}
 use Rattle.lp_spec_design.proofs.Samples.{port}
 use Rattle.lp_spec_pins.specs.Supplied.{is_supplied}
@@ -18,9 +27,15 @@ use Rattle.lp_spec_realises.specs.Operators.{Placement}
 use Rattle.lp_spec_realises.specs.Surroundings.{powered_of}
 use Rattle.lp_spec_realises.specs.Realises.{Realises}
 use Rattle.lp_spec_realises.proofs.Netlists.{is_netlist}
-use Rattle.lp_spec_agreement.specs.Faultless.{IsSoundCell}
-use Rattle.lp_spec_design.specs.Nodes.{computing}
-use Rattle.lp_spec_realises.specs.Projects.{Project}
+use Rattle.lp_spec_faults.proofs.Depth.{shallow}
+use Rattle.lp_spec_agreement.specs.Faultless.{IsSoundCell, IsFaultless}
+use Rattle.lp_spec_agreement.specs.Laws.{RunsAgree}
+use Rattle.lp_spec_agreement.specs.Met.{ClampsWhatIsOff, AgreementOfAClamp}
+use Rattle.lp_spec_agreement.proofs.Framed.{no_fault}
+use Rattle.lp_spec_agreement.proofs.Orders.{declares, holds_nodes, holds_origins, is_order, has_order}
+use Rattle.lp_spec_agreement.proofs.Whole.{agreement}
+use Rattle.lp_spec_design.specs.Nodes.{computing, DeclaresBits}
+use Rattle.lp_spec_realises.specs.Projects.{Project, design_of}
 use Rattle.lp_spec_realises.specs.ProjectNetlists.{has_names_apart}
 use Rattle.lp_spec_realises.proofs.Samples.{inverter, set_of, project, by_the_block}
 use Rattle.lp_spec_faults.specs.Lines.{first_of}
@@ -103,16 +118,16 @@ controls commands = refl
 
 -- ---- its library and its grounds
 
-inverter_sound : IsSoundCell inverter
+pub inverter_sound : IsSoundCell inverter
 inverter_sound = record { names = refl; switched = refl; sound = record { names_apart = refl; pgs_apart = refl; related = refl; pins = refl; switched = refl; state = refl; retention = refl; powered = refl } }
 
-buffer_sound : IsSoundCell buffer
+pub buffer_sound : IsSoundCell buffer
 buffer_sound = record { names = refl; switched = refl; sound = record { names_apart = refl; pgs_apart = refl; related = refl; pins = refl; switched = refl; state = refl; retention = refl; powered = refl } }
 
-clamp_sound : IsSoundCell clamp
+pub clamp_sound : IsSoundCell clamp
 clamp_sound = record { names = refl; switched = refl; sound = record { names_apart = refl; pgs_apart = refl; related = refl; pins = refl; switched = refl; state = refl; retention = refl; powered = refl } }
 
-shifter_sound : IsSoundCell shifter
+pub shifter_sound : IsSoundCell shifter
 shifter_sound = record { names = refl; switched = refl; sound = record { names_apart = refl; pgs_apart = refl; related = refl; pins = refl; switched = refl; state = refl; retention = refl; powered = refl } }
 
 all_sound : (c : CellView) → IsIn c p.structure.cells → IsSoundCell c
@@ -128,14 +143,14 @@ a_ground a (inr (inl is)) = let same : a ≡ set_of 1 = cc in ap (λ (s : SetOri
 a_ground a (inr (inr (inl is))) = let same : a ≡ set_of 2 = cc in ap (λ (s : SetOrigins). s.gnd) same
 a_ground a (inr (inr (inr gone))) = absurd gone
 
-all_cons : {X : Type 0} (P : X → Type 0) (x : X) (xs : List X) → P x → All P xs → All P (x ∷ xs)
+pub all_cons : {X : Type 0} (P : X → Type 0) (x : X) (xs : List X) → P x → All P xs → All P (x ∷ xs)
 all_cons P x xs here rest zero d less = here
 all_cons P x xs here rest (suc k) d less = rest k d (omega (arith, less))
 
-all_none : {X : Type 0} (P : X → Type 0) → All P []
+pub all_none : {X : Type 0} (P : X → Type 0) → All P []
 all_none P k d less = absurd (omega (arith, less))
 
-abbrev IsLow : DeclaredState → Type 0
+abbrev pub IsLow : DeclaredState → Type 0
 IsLow x = declared_voltage x ≤ 1000000000000
 
 network_is : IsNetwork p.supplies
@@ -199,3 +214,74 @@ it_realises = record { netlist = is_netlist p written refl; placement = in_block
 it_is_supplied : is_supplied (powered_of p written in_block) ≡ true
 unfolding computing
 it_is_supplied = refl
+
+-- ---- what is joined is declared, and the keys have an order
+
+abbrev d : Design
+d = design_of p
+
+is_shallow : (q : Path) → 64 ≤ length q → module_at p.structure q ≡ None
+is_shallow q long = shallow p.structure (no_fault (netlist_limits p.structure) limits depths.Depth (inr (inr (inl refl)))) q long
+
+declared : DeclaresBits p.structure
+unfolding computing
+declared = declares p.structure is_shallow refl
+
+abbrev inside : Name → Key
+inside n = At (Inner n None (codes "u" ∷ []))
+
+abbrev within : Name → Key
+within n = At (Inner n None [])
+
+abbrev outside : Name → Key
+outside n = At (Outer n None)
+
+-- from the output of the top back to its inputs, and then supplies
+abbrev back : List Key
+back =
+    outside (codes "y") ∷ within (codes "y") ∷ within (codes "n") ∷ inside (codes "o") ∷ inside (codes "i")
+    ∷ within (codes "a") ∷ within (codes "en") ∷ outside (codes "a") ∷ outside (codes "en") ∷ Of 0 ∷ Of 1 ∷ Of 2 ∷ Of 3 ∷ []
+
+holds : (holds_nodes d back && holds_origins d back) ≡ true
+unfolding computing
+holds = refl
+
+in_order : is_order (reads d) back ≡ true
+unfolding computing
+in_order = refl
+
+order : HasOrder keys (reads d)
+order = let both = and_parts (holds_nodes d back) (holds_origins d back) holds in has_order d declared back both.0 both.1 in_order
+
+-- ---- all premises together
+
+faultless : IsFaultless p
+faultless = record {
+  names_apart = names;
+  declared = declared.declared;
+  within_limits = limits;
+  cells_fit = cells_fit;
+  no_wire_loop = no_loop;
+  order = order;
+  network = network_is;
+  states = states;
+  unfit_power = powers;
+  levels = levels;
+  control_levels = controls;
+  library = λ c h usable. all_sound c h;
+}
+
+runs_meet : RunsAgree p written it_realises
+runs_meet = agreement p faultless written it_realises it_is_supplied
+
+-- ---- an event in which the block is off
+
+abbrev block_off : Event
+block_off = record { inputs = λ n i. Zero; supplies = λ o. if o == 1 then powers_of.Off else if o == 3 then powers_of.On 0 else powers_of.On 1000000 }
+
+clamps_what_is_off : ClampsWhatIsOff p
+unfolding computing
+clamps_what_is_off = (block_off, (0, [], refl, refl), refl)
+
+pub agreement_of_a_clamp : AgreementOfAClamp
+agreement_of_a_clamp = (p, written, clamps_what_is_off, record { faultless = faultless; realises = it_realises; supplied = it_is_supplied; agree = runs_meet })

@@ -2,3 +2,4 @@ pub mod Alike
 pub mod Cells
 pub mod Faultless
 pub mod Laws
+pub mod Met

@@ -1,5 +1,6 @@
 //! The laws of agreement: each is the clause of a function that does nothing.
 ghost use Rattle.lp_spec_agreement.specs.Laws.{AgreesByCells, Agreement, AgreementByIndices};
+ghost use Rattle.lp_spec_agreement.specs.Met.{AgreementOfAClamp, AgreementOfARegister, AgreementOfAShifter};
 
 /// Where the project has no fault, the netlist realises it, and each cell does at its pins what the intent says: for all
 /// events within the rows the source under its intent and the netlist by its pins have one run each, the outputs of the
@@ -22,4 +23,24 @@ pub fn agreement()
 #[tactic(auto, using(crate::proofs::Whole::agreement_by_indices))]
 pub fn agreement_by_indices()
     ensures { AgreementByIndices }
+{}
+
+/// The premises of the theorem can be met at once: there is a project without faults, with a clamp behind a driver whose
+/// supply may be off, and a netlist that realises it and in which each power and ground pin has one supply; and so their
+/// runs agree.
+#[tactic(auto, using(crate::proofs::Premises::agreement_of_a_clamp))]
+pub fn agreement_of_a_clamp()
+    ensures { AgreementOfAClamp }
+{}
+
+/// So it is of a project with a power switch, a register with retention and a clamp.
+#[tactic(auto, using(crate::proofs::Kept::agreement_of_a_register))]
+pub fn agreement_of_a_register()
+    ensures { AgreementOfARegister }
+{}
+
+/// And of a project with a level shifter and a clamp.
+#[tactic(auto, using(crate::proofs::Shifted::agreement_of_a_shifter))]
+pub fn agreement_of_a_shifter()
+    ensures { AgreementOfAShifter }
 {}

@@ -4,4 +4,7 @@
 
 mod laws;
 
-pub use laws::{agreement, agreement_by_indices, agrees_by_cells};
+pub use laws::{
+    agreement, agreement_by_indices, agreement_of_a_clamp, agreement_of_a_register,
+    agreement_of_a_shifter, agrees_by_cells,
+};
