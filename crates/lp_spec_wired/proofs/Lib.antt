@@ -1,12 +1,16 @@
 mod Added
 mod Apart
+mod Bits
 mod Chains
 mod Computed
 mod Controls
 mod Down
 mod Inputs
+mod Intervals
 mod Kept
 mod Led
 mod Lists
 mod Samples
 mod Supplies
+mod Tops
+mod Wires

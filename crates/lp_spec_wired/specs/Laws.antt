@@ -1,20 +1,22 @@
 -- The statements of the laws of this crate (own rule).
-use Rattle.std.specs.Prelude.{◌≡◌, ◌<◌, ◌^◌, ℕ, Bool, true, false, List, [], ◌∷◌, filter, length, Option, Some, slice_get, bytes_eq}
+use Rattle.std.specs.Prelude.{◌≡◌, ◌<◌, ◌≤◌, ◌+◌, ◌^◌, ℕ, Bool, true, false, List, [], ◌∷◌, ◌++◌, filter, length, Option, Some, slice_get, bytes_eq}
+use Rattle.std.specs.List.{list_any}
 use Rattle.lp_model.specs.NetlistView.{PortView, ModuleView}
-use Rattle.lp_spec_design.specs.Keys.{Name, Path, Node, Inner, Way, PortBit, Source, From}
-use Rattle.lp_spec_design.specs.Netlists.{Structure, module_at, is_input}
+use Rattle.lp_spec_design.specs.Keys.{Name, Path, Node, Inner, Way, Outer, PortBit, Source, From, same_index}
+use Rattle.lp_spec_design.specs.Netlists.{Structure, module_at, indices, is_input}
 use Rattle.lp_spec_design.specs.Graph.{from_port}
-use Rattle.lp_spec_design.specs.Domains.{boundary}
+use Rattle.lp_spec_design.specs.Domains.{BoundaryBit, boundary, way_of}
 use Rattle.lp_spec_design.specs.Winners.{IsIn}
 use Rattle.lp_spec_design.specs.Intents.{FromPort, FromSwitch}
+use Rattle.lp_spec_faults.specs.Modules.{is_own}
 use Rattle.lp_spec_realises.specs.Projects.{Project, network_of}
 use Rattle.lp_spec_realises.specs.Operators.{Placement}
 use Rattle.lp_spec_written.specs.Places.{instances, Standing, Switching, Plan}
-use Rattle.lp_spec_written.specs.Nets.{stretches}
+use Rattle.lp_spec_written.specs.Nets.{Stretch, stretches, leads_constant, chain_net}
 use Rattle.lp_spec_written.specs.Supplies.{switch_of, goes_in}
 use Rattle.lp_spec_written.specs.Routes.{Part, PortOut, PortIn, has_part}
 use Rattle.lp_spec_written.specs.Written.{Additions}
-use Rattle.lp_spec_hub.specs.Spots.{Spot, OfNode, Carried, Routed, Done, on_way}
+use Rattle.lp_spec_hub.specs.Spots.{Spot, OfNode, Before, Lead, Carried, Routed, Done, on_way, own_spot}
 use Rattle.lp_spec_hub.specs.Drives.{drive, part_at}
 use Rattle.lp_spec_hub.specs.Entries.{carries}
 use Rattle.lp_spec_hub.specs.Begins.{IsWired}
@@ -89,6 +91,32 @@ InputsComeDown =
     → from_port p.structure (i ∷ x) q.name b q ≡ From (PortBit (i ∷ x) q.name b) j ∷ more
     → StandsFor p a w at from (OfNode (Inner q.name b (i ∷ x)))
 
+-- some operators of a way stand in one instance, and the others behind them, of which this one is the first, in another
+pub record GoesIn (plan : Plan) (way : Way) (x y : Path) (outer : List Standing) (o : Standing) (inner : List Standing) : Type 0 where
+  pub all : on_way plan.operators way ≡ outer ++ (o ∷ inner)
+  pub outside : (r : Standing) → IsIn r outer → r.path ≡ x
+  pub inside : (r : Standing) → IsIn r (o ∷ inner) → r.path ≡ y
+
+-- what the first operator inside an input port reads is the port's own net bit, driven as the hub says: by what stands for the parent's bit, or by the last operator in the parent
+abbrev pub InnerReadsComeDown : Type 0
+InnerReadsComeDown =
+    (p : Project) (a : Additions) (w : Structure) (at : Placement) (from : Way → Node)
+    → IsWrittenAt p a w
+    → LeavesNames p.structure
+    → HasChains p a
+    → (i : Name) (x : Path) (m : ModuleView)
+    → module_at p.structure (i ∷ x) ≡ Some m
+    → IsIn x (instances p)
+    → IsIn (i ∷ x) (instances p)
+    → (q : PortView) (b : Option ℕ)
+    → IsOnlyInput m q
+    → (outer : List Standing) (o : Standing) (inner : List Standing)
+    → GoesIn a.plan (PortBit (i ∷ x) q.name b) x (i ∷ x) outer o inner
+    → (j : Node) (more : List Source)
+    → from_port p.structure (i ∷ x) q.name b q ≡ From (PortBit (i ∷ x) q.name b) j ∷ more
+    → from (PortBit (i ∷ x) q.name b) ≡ j
+    → StandsFor p a w at from (Before (PortBit (i ∷ x) q.name b) (length outer))
+
 -- an instance has a control by an output port or by an input port alone
 abbrev pub IsOneWay : List Part → Node → Path → Type 0
 IsOneWay made k x = has_part made (part_at k x PortOut) ≡ true → has_part made (part_at k x PortIn) ≡ false
@@ -107,3 +135,149 @@ ControlsComeDown =
     → carries a.controls (Inner n b own) x ≡ true
     → IsOneWay a.controls (Inner n b own) x
     → StandsFor p a w at from (Routed (part_at (Inner n b own) (i ∷ x) PortIn))
+
+-- a net of an instance is one of a stretch by its number
+pub record HasNet (s : Stretch) (k : ℕ) : Type 0 where
+  pub above : s.start ≤ k
+  pub below : k < s.start + s.count
+
+-- two nets of chains in one instance that have one name are the same net of the same stretch
+abbrev pub ChainNetsAreApart : Type 0
+ChainNetsAreApart =
+    (p : Project) (plan : Plan) (s t : Stretch)
+    → IsIn s (stretches p plan)
+    → IsIn t (stretches p plan)
+    → s.path ≡ t.path
+    → (j k : ℕ)
+    → HasNet s j
+    → HasNet t k
+    → j < 2 ^ 64
+    → k < 2 ^ 64
+    → chain_net j ≡ chain_net k
+    → (s ≡ t) × (j ≡ k)
+
+-- each way is of one boundary bit at most, and no boundary port has the name of an addition
+pub record HasOneBit (p : Project) : Type 0 where
+  pub one : (b c : BoundaryBit) → IsIn b (boundary p.structure p.intent) → IsIn c (boundary p.structure p.intent) → way_of b ≡ way_of c → b ≡ c
+  pub free : (b : BoundaryBit) → IsIn b (boundary p.structure p.intent) → is_own b.port.name ≡ false
+
+-- two operators that make wires of one name are the same operator of the same way
+abbrev pub OperatorWiresAreApart : Type 0
+OperatorWiresAreApart =
+    (p : Project) (a : Additions)
+    → HasChains p a
+    → ((o : Standing) → IsIn o a.plan.operators → IsIn o.path (instances p))
+    → HasOneBit p
+    → ((s : Stretch) → IsIn s (stretches p a.plan) → s.start + s.count ≤ 2 ^ 64)
+    → (w v : Way) (k l : ℕ) (o r : Standing)
+    → slice_get (on_way a.plan.operators w) k ≡ Some o
+    → slice_get (on_way a.plan.operators v) l ≡ Some r
+    → name_by p a (own_spot w k o) ≡ name_by p a (own_spot v l r)
+    → (w ≡ v) × (k ≡ l)
+
+-- two net bits of the source that have one net bit in the written netlist are one
+abbrev pub NodesAreApart : Type 0
+NodesAreApart =
+    (p : Project) (a : Additions)
+    → HasChains p a
+    → ((s : Stretch) → IsIn s (stretches p a.plan) → s.start + s.count ≤ 2 ^ 64)
+    → (n m : Name) (i j : Option ℕ) (x y : Path)
+    → is_own n ≡ false
+    → is_own m ≡ false
+    → name_by p a (OfNode (Inner n i x)) ≡ name_by p a (OfNode (Inner m j y))
+    → Inner n i x ≡ Inner m j y
+
+-- the net bit of a net bit of the source is not that of a wire that an operator makes
+abbrev pub NodesAreNotMade : Type 0
+NodesAreNotMade =
+    (p : Project) (a : Additions)
+    → HasChains p a
+    → ((o : Standing) → IsIn o a.plan.operators → IsIn o.path (instances p))
+    → HasOneBit p
+    → ((s : Stretch) → IsIn s (stretches p a.plan) → s.start + s.count ≤ 2 ^ 64)
+    → (n : Name) (i : Option ℕ) (x : Path)
+    → is_own n ≡ false
+    → (w : Way) (k : ℕ) (o : Standing)
+    → slice_get (on_way a.plan.operators w) k ≡ Some o
+    → name_by p a (OfNode (Inner n i x)) ≡ name_by p a (own_spot w k o)
+    → ⊥
+
+-- an input port of the top whose ways have no operators: a net bit of the source is driven from the port's outer side
+abbrev pub TopInputsComeIn : Type 0
+TopInputsComeIn =
+    (p : Project) (a : Additions) (w : Structure) (at : Placement) (from : Way → Node)
+    → IsWrittenAt p a w
+    → HasChains p a
+    → (m : ModuleView)
+    → module_at p.structure [] ≡ Some m
+    → (q : PortView) (b : Option ℕ)
+    → IsOnlyInput m q
+    → list_any (same_index b) (indices q.range) ≡ true
+    → on_way a.plan.operators (PortBit [] q.name b) ≡ []
+    → StandsFor p a w at from (OfNode (Inner q.name b []))
+
+-- where the first operator of the top's input stands in the top, what it reads is driven from the port's outer side
+abbrev pub TopReadsComeIn : Type 0
+TopReadsComeIn =
+    (p : Project) (a : Additions) (w : Structure) (at : Placement) (from : Way → Node)
+    → IsWrittenAt p a w
+    → HasChains p a
+    → ((o : Standing) → IsIn o a.plan.operators → IsIn o.path (instances p))
+    → HasOneBit p
+    → (m : ModuleView)
+    → module_at p.structure [] ≡ Some m
+    → (q : PortView) (b : Option ℕ)
+    → IsOnlyInput m q
+    → list_any (same_index b) (indices q.range) ≡ true
+    → (o : Standing) (more : List Standing)
+    → on_way a.plan.operators (PortBit [] q.name b) ≡ o ∷ more
+    → o.path ≡ []
+    → from (PortBit [] q.name b) ≡ Outer q.name b
+    → StandsFor p a w at from (Before (PortBit [] q.name b) 0)
+
+-- the net of its own by which a constant comes to the first operator of a way is no wire that an operator makes
+abbrev pub LeadsAreNotMade : Type 0
+LeadsAreNotMade =
+    (p : Project) (a : Additions)
+    → HasChains p a
+    → ((o : Standing) → IsIn o a.plan.operators → IsIn o.path (instances p))
+    → HasOneBit p
+    → ((s : Stretch) → IsIn s (stretches p a.plan) → s.start + s.count ≤ 2 ^ 64)
+    → (w v : Way) (l : ℕ) (o r : Standing)
+    → slice_get (on_way a.plan.operators w) 0 ≡ Some o
+    → slice_get (on_way a.plan.operators v) l ≡ Some r
+    → leads_constant p.structure o.path o.asked.bit ≡ true
+    → name_by p a (Lead w) ≡ name_by p a (own_spot v l r)
+    → ⊥
+
+-- two ways to which a constant comes by one net are one
+abbrev pub LeadsAreApart : Type 0
+LeadsAreApart =
+    (p : Project) (a : Additions)
+    → HasChains p a
+    → ((o : Standing) → IsIn o a.plan.operators → IsIn o.path (instances p))
+    → HasOneBit p
+    → ((s : Stretch) → IsIn s (stretches p a.plan) → s.start + s.count ≤ 2 ^ 64)
+    → (w v : Way) (o r : Standing)
+    → slice_get (on_way a.plan.operators w) 0 ≡ Some o
+    → slice_get (on_way a.plan.operators v) 0 ≡ Some r
+    → leads_constant p.structure o.path o.asked.bit ≡ true
+    → leads_constant p.structure r.path r.asked.bit ≡ true
+    → name_by p a (Lead w) ≡ name_by p a (Lead v)
+    → w ≡ v
+
+-- the net bit of a net bit of the source is not the net of its own by which a constant comes to a way
+abbrev pub NodesAreNotLed : Type 0
+NodesAreNotLed =
+    (p : Project) (a : Additions)
+    → HasChains p a
+    → ((o : Standing) → IsIn o a.plan.operators → IsIn o.path (instances p))
+    → HasOneBit p
+    → ((s : Stretch) → IsIn s (stretches p a.plan) → s.start + s.count ≤ 2 ^ 64)
+    → (n : Name) (i : Option ℕ) (x : Path)
+    → is_own n ≡ false
+    → (w : Way) (o : Standing)
+    → slice_get (on_way a.plan.operators w) 0 ≡ Some o
+    → leads_constant p.structure o.path o.asked.bit ≡ true
+    → name_by p a (OfNode (Inner n i x)) ≡ name_by p a (Lead w)
+    → ⊥

@@ -1,6 +1,8 @@
 //! Laws about the wires of a written netlist: each is the clause of a function that does nothing.
 ghost use Rattle.lp_spec_wired.specs.Additions.{AreApart};
-ghost use Rattle.lp_spec_wired.specs.Laws.{ControlsComeDown, InputsComeDown, PortsComeDown, SwitchesComeDown};
+ghost use Rattle.lp_spec_wired.specs.Laws.{ChainNetsAreApart, ControlsComeDown, InnerReadsComeDown, InputsComeDown, NodesAreApart, NodesAreNotMade};
+ghost use Rattle.lp_spec_wired.specs.Laws.{LeadsAreApart, LeadsAreNotMade, NodesAreNotLed, OperatorWiresAreApart, PortsComeDown, SwitchesComeDown};
+ghost use Rattle.lp_spec_wired.specs.Laws.{TopInputsComeIn, TopReadsComeIn};
 
 /// A supply port goes from the top down to each instance that has it.
 pub fn supply_ports_come_down()
@@ -25,4 +27,54 @@ pub fn added_names_are_apart()
 /// A control that comes in at an input port comes from where it is in the parent.
 pub fn controls_come_down()
     ensures { ControlsComeDown }
+{}
+
+/// Two nets of chains in one instance that have one name are the same net of the same stretch.
+pub fn chain_nets_are_apart()
+    ensures { ChainNetsAreApart }
+{}
+
+/// What the first operator inside an input port reads is driven as the hub says.
+pub fn inner_reads_come_down()
+    ensures { InnerReadsComeDown }
+{}
+
+/// Two operators that make wires of one name are the same operator of the same way.
+pub fn operator_wires_are_apart()
+    ensures { OperatorWiresAreApart }
+{}
+
+/// Two net bits of the source that have one net bit in the written netlist are one.
+pub fn node_names_are_apart()
+    ensures { NodesAreApart }
+{}
+
+/// The net bit of a net bit of the source is not that of a wire that an operator makes.
+pub fn node_names_are_not_made()
+    ensures { NodesAreNotMade }
+{}
+
+/// Inside an input port of the top without operators, a net bit of the source is driven from the port's outer side.
+pub fn top_inputs_come_in()
+    ensures { TopInputsComeIn }
+{}
+
+/// What the first operator of a top input reads is driven from the port's outer side.
+pub fn top_reads_come_in()
+    ensures { TopReadsComeIn }
+{}
+
+/// The net of its own by which a constant comes to the first operator of a way is no wire that an operator makes.
+pub fn constant_nets_are_not_made()
+    ensures { LeadsAreNotMade }
+{}
+
+/// Two ways to which a constant comes by one net are one.
+pub fn constant_nets_are_apart()
+    ensures { LeadsAreApart }
+{}
+
+/// The net bit of a net bit of the source is not the net of its own by which a constant comes to a way.
+pub fn node_names_are_not_led()
+    ensures { NodesAreNotLed }
 {}

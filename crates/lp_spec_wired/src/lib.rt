@@ -4,6 +4,9 @@
 mod laws;
 
 pub use laws::{
-    added_names_are_apart, controls_come_down, inputs_come_down, supply_ports_come_down,
-    switch_outputs_come_down,
+    added_names_are_apart, chain_nets_are_apart, constant_nets_are_apart,
+    constant_nets_are_not_made, controls_come_down, inner_reads_come_down, inputs_come_down,
+    node_names_are_apart, node_names_are_not_led, node_names_are_not_made,
+    operator_wires_are_apart, supply_ports_come_down, switch_outputs_come_down, top_inputs_come_in,
+    top_reads_come_in,
 };
