@@ -5,3 +5,16 @@ pub mod Paths
 pub mod Netlists
 pub mod Cells
 pub mod Operators
+pub mod Picked
+pub mod Instances
+pub mod Stretched
+pub mod Placed
+pub mod Switches
+pub mod Stands
+pub mod SourceCells
+pub mod NoLack
+pub mod Chosen
+pub mod Back
+pub mod BackSwitches
+pub mod NoOthers
+pub mod Distinct

@@ -101,7 +101,7 @@ module _ (p : Project) (a : Additions) (f : IsFree p) (listed : HasListedCells p
   abbrev w : Structure
   w = netlist p a
 
-  in-instances : (x : Path) (m : ModuleView) → module_at s x ≡ Some m → IsIn x (instances p)
+  pub in-instances : (x : Path) (m : ModuleView) → module_at s x ≡ Some m → IsIn x (instances p)
   unfolding module_instances
   in-instances x m e = in_reach s 64 x m e short
     where

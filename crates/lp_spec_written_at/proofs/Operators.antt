@@ -52,7 +52,7 @@ named-from j k top (Shift t x y ∷ os) n h g at = elim at [
   | inr r ↦ either-later j k (j + 0) (k + 1) top n (omega arith) (omega arith) (named-from (j + 0) (k + 1) top os n (omega (arith, h)) (omega (arith, g)) r)
 ]
 
-not-equal : (m n : Name) → (m ≡ n → ⊥) → bytes_eq m n ≡ false
+pub not-equal : (m n : Name) → (m ≡ n → ⊥) → bytes_eq m n ≡ false
 not-equal m n differ = by (bytes_eq m n) refl
   where
     by : (b : Bool) → bytes_eq m n ≡ b → b ≡ false
@@ -60,7 +60,7 @@ not-equal m n differ = by (bytes_eq m n) refl
     by true e = absurd (differ (name-true m n e))
 
 -- the letter of the kind
-abbrev letter : Name → ℕ
+abbrev pub letter : Name → ℕ
 letter (a ∷ b ∷ c ∷ d ∷ rest) = d
 letter _ = 0
 

@@ -1,5 +1,5 @@
 //! Laws about the modules of the written netlist by their paths: each is the clause of a function that does nothing.
-ghost use Rattle.lp_spec_written_at.specs.Laws.{HasItsCells, HasItsInstances, HasItsOrigins, HasItsPorts, HasOperatorCells, IsShallow, KnowsTargets, WrittenAreReached, WrittenAtItsPaths};
+ghost use Rattle.lp_spec_written_at.specs.Laws.{HasItsInstances, HasItsOrigins, HasItsPorts, HasNoOtherCells, HasOperatorCells, HasSourceCells, IsAsChosen, IsShallow, KnowsTargets, NoneLacks, OperatorsComeFromPlan, OperatorsStand, PlacesOperators, PlacesSwitches, SourceCellsDiffer, SourceCellsStand, SwitchesComeFromPlan, SwitchesStand, WrittenAreReached, WrittenAtItsPaths};
 
 /// The written netlist has at each path of the source the written module of that path, and no other paths.
 pub fn written_is_written_at()
@@ -38,10 +38,65 @@ pub fn written_modules_have_instances()
 
 /// Each cell instance of the source is there, a register with retention by the cell that was chosen for it.
 pub fn content_has_the_cells_of_the_source()
-    ensures { HasItsCells }
+    ensures { HasSourceCells }
 {}
 
 /// Each operator has the instance of its name, of the cell that was chosen for it.
 pub fn content_has_the_cells_of_operators()
     ensures { HasOperatorCells }
+{}
+
+/// The placement that goes with it has each operator of the plan at an instance of the cell that was chosen for it.
+pub fn operators_are_placed()
+    ensures { PlacesOperators }
+{}
+
+/// It has each switch at an instance of the cell that was chosen for it.
+pub fn switches_are_placed()
+    ensures { PlacesSwitches }
+{}
+
+/// Each operator stands in its place by a cell that fits, the chosen one.
+pub fn operators_stand()
+    ensures { OperatorsStand }
+{}
+
+/// Each switch stands in its scope by a cell that fits, the chosen one.
+pub fn switches_stand()
+    ensures { SwitchesStand }
+{}
+
+/// Each cell instance of the source stands, a register with retention by a cell that fits, the chosen one.
+pub fn source_cells_stand()
+    ensures { SourceCellsStand }
+{}
+
+/// All cells that are added, and those of registers with retention, are the chosen ones in their places.
+pub fn cells_are_as_chosen()
+    ensures { IsAsChosen }
+{}
+
+/// Where no operator, register or switch lacks a cell, registers with retention and switches have the chosen ones.
+pub fn none_lacks_a_cell()
+    ensures { NoneLacks }
+{}
+
+/// Each operator that is written in an instance is the one that the placement has there for some operator.
+pub fn written_operators_come_from_the_plan()
+    ensures { OperatorsComeFromPlan }
+{}
+
+/// So is each switch.
+pub fn written_switches_come_from_the_plan()
+    ensures { SwitchesComeFromPlan }
+{}
+
+/// There are no other cell instances than those of the source, the operators and the switches.
+pub fn content_has_no_other_cells()
+    ensures { HasNoOtherCells }
+{}
+
+/// No cell instance of the source stands twice.
+pub fn source_cells_differ()
+    ensures { SourceCellsDiffer }
 {}
