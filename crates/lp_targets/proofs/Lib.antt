@@ -5,3 +5,6 @@ mod Marks
 mod Closed
 mod Recursion
 mod Looping
+mod Search
+mod FirstLooped
+mod Refused

@@ -6,7 +6,7 @@ use Rattle.std.proofs.lemmas.Bool.{true≢false, eqb-true, eq-eqb}
 use Rattle.lp_text.specs.Texts.{true-same_text}
 use Rattle.lp_model.specs.NetlistView.{InstanceView, ModuleView}
 use Rattle.lp_order.specs.Order.{Reads, Reaches, one_read, more_reads, HasLoop}
-use Rattle.lp_order.proofs.OrderLaws.{Contains-cons_cases, Reads-within}
+use Rattle.lp_order.proofs.OrderLaws.{Contains-cons_cases, Reads-within, Reaches-within}
 use Rattle.lp_spec_design.specs.Netlists.{Structure, first, module_named, upward}
 use Rattle.lp_spec_design.specs.Graph.{and_more, some_of}
 use Rattle.lp_spec_design.specs.Winners.{IsIn}
@@ -90,7 +90,7 @@ first_some p (y ∷ xs) (suc a) x at e = by (p y) (first_some p xs a x at e)
     by true r = refl
     by false r = r
 
-stands : {A : Type 0} (xs : List A) (a : ℕ) → a < length xs → (x : A) × (slice_get xs a ≡ Some x)
+pub stands : {A : Type 0} (xs : List A) (a : ℕ) → a < length xs → (x : A) × (slice_get xs a ≡ Some x)
 stands [] a h = absurd (omega (arith, h))
 stands (x ∷ xs) zero h = (x, refl)
 stands (x ∷ xs) (suc a) h = stands xs a (omega (arith, h))
@@ -100,7 +100,7 @@ or_true true b e = refl
 or_true false b e = e
 
 module _ (s : Structure) (rows : List (List Target)) (targets : AreTargets s rows) where
-  count : length (children rows) ≡ length s.modules
+  pub count : length (children rows) ≡ length s.modules
   count = count_map children_of rows ∙ sym (count_map (map (module_of s)) rows) ∙ ap length targets.modules ∙ count_map (λ (m : ModuleView). map (λ (i : InstanceView). module_named s i.target) m.instances) s.modules
 
   in_row : (row : List Target) (b : ℕ) (k : ModuleView) → slice_get s.modules b ≡ Some k → Contains (children_of row) b → IsIn k (some_of (module_of s) row)
@@ -132,14 +132,17 @@ module _ (s : Structure) (rows : List (List Target)) (targets : AreTargets s row
       any-in (λ (x : ModuleView). bytes_eq x.name k.name || is_within s k.name steps x) next.0 (modules_in s m) (in_module a j m next.0 at next.1 w.0)
       (or_true (bytes_eq next.0.name k.name) (is_within s k.name steps next.0) (along steps js j b next.0 k next.1 there w.1 (omega (arith, h))))
 
-  recursion : (a : ℕ) → Reaches (children rows) a a → is_some (first_of (recursive s)) ≡ true
-  recursion a r =
+  pub contains_itself : (a : ℕ) (m : ModuleView) → slice_get s.modules a ≡ Some m → Reaches (children rows) a a → is_within s m.name (length s.modules) m ≡ true
+  contains_itself a m at r =
       let found = way (children rows) a a r in
       let brief = short (children rows) found.0 a a found.1 in
       let less : length brief.0 < length s.modules = subst (λ n. length brief.0 < n) count (few (children rows) brief.0 a a brief.1 brief.2) in
-      let here = stands s.modules a (subst (λ n. a < n) count (on_way (children rows) brief.0 a a brief.1 a (inl refl))) in
-      first_some (λ (m : ModuleView). is_within s m.name (length s.modules) m) s.modules a here.0 here.1
-      (along (length s.modules) brief.0 a a here.0 here.0 here.1 here.1 brief.1 less)
+      along (length s.modules) brief.0 a a m m at at brief.1 less
+
+  recursion : (a : ℕ) → Reaches (children rows) a a → is_some (first_of (recursive s)) ≡ true
+  recursion a r =
+      let here = stands s.modules a (subst (λ n. a < n) count (Reaches-within (children rows) a a r)) in
+      first_some (λ (m : ModuleView). is_within s m.name (length s.modules) m) s.modules a here.0 here.1 (contains_itself a here.0 here.1 r)
 
 pub loop_found : (s : Structure) (rows : List (List Target)) → AreTargets s rows → HasLoop (children rows) → is_some (first_of (recursive s)) ≡ true
 loop_found s rows targets (a, r) = recursion s rows targets a r

@@ -18,7 +18,7 @@ use Rattle.lp_targets.specs.Children.{children_of, children}
 
 -- ---- lists
 
-first_none : {A : Type 0} (p : A → Bool) (xs : List A) → ((a : ℕ) (x : A) → slice_get xs a ≡ Some x → p x ≡ true → ⊥) → first p xs ≡ None
+pub first_none : {A : Type 0} (p : A → Bool) (xs : List A) → ((a : ℕ) (x : A) → slice_get xs a ≡ Some x → p x ≡ true → ⊥) → first p xs ≡ None
 first_none p [] never = refl
 first_none p (x ∷ xs) never = by (p x) refl (first_none p xs (λ a y. never (suc a) y))
   where
@@ -106,7 +106,7 @@ module _ (s : Structure) (rows : List (List Target)) (targets : AreTargets s row
       let same : Some b ≡ Some a = sym (place_of-distinct names b apart (within s.modules b k there)) ∙ ap (λ t. place_of t names) (name_at s.modules b k there ∙ e ∙ sym (name_at s.modules a m at)) ∙ place_of-distinct names a apart (within s.modules a m at) in
       cc
 
-  loops : (steps a : ℕ) (m : ModuleView) → Stands a m → is_within s m.name steps m ≡ true → Reaches (children rows) a a
+  pub loops : (steps a : ℕ) (m : ModuleView) → Stands a m → is_within s m.name steps m ≡ true → Reaches (children rows) a a
   loops steps a m at e =
       let far = reaches m.name steps a m at e in
       subst (λ b. Reaches (children rows) a b) (same_place a far.0 m far.1 at far.3 (same_text-true far.1.name m.name far.4)) far.2

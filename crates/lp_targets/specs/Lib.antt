@@ -4,4 +4,6 @@ pub mod Targets
 pub mod Numbered
 pub mod Marks
 pub mod Children
+pub mod Recursion
+pub mod Search
 pub mod Laws

@@ -7,10 +7,11 @@ use Rattle.lp_model.specs.declared.fault.refusal.Refusal.{Refusal}
 use Rattle.lp_model.specs.declared.fault.refusal.Refusal.TheVariants as refusals
 use Rattle.lp_model.specs.FaultLines.{netlist_fields}
 use Rattle.lp_model.specs.FaultWords.{netlist_fault_word}
+use Rattle.lp_model.specs.NetlistView.{ModuleView}
 use Rattle.lp_spec_design.specs.Keys.{Name}
 use Rattle.lp_spec_design.specs.Netlists.{Structure}
 use Rattle.lp_spec_faults.specs.Lines.{first_of}
-use Rattle.lp_spec_faults.specs.Modules.{Declared, OfModule, OfPart, InstanceAt, reserved_name, unknown_module, top_count}
+use Rattle.lp_spec_faults.specs.Modules.{Declared, OfModule, OfPart, InstanceAt, reserved_name, unknown_module, recursive, top_count}
 
 -- a word and its fields
 abbrev pub Report : Type 0
@@ -33,6 +34,10 @@ reserved_report s = option_map (λ d. (codes "F19 ReservedName", name_of d ∷ [
 
 abbrev pub unknown_report : Structure → Option Report
 unknown_report s = option_map (λ (x : InstanceAt). (codes "F13 UnknownModule", x.parent.name ∷ x.instance.name ∷ [])) (first_of (unknown_module s))
+
+-- a module that contains itself
+abbrev pub recursive_report : Structure → Option Report
+recursive_report s = option_map (λ (m : ModuleView). (codes "F17 Recursive", m.name ∷ [])) (first_of (recursive s))
 
 -- not exactly one module that none instantiates
 abbrev pub top_told : ℕ → Option Report

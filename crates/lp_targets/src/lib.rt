@@ -3,6 +3,7 @@
 
 mod index;
 mod laws;
+mod looped;
 mod order;
 mod reserved;
 mod resolve;
@@ -11,7 +12,11 @@ mod target;
 mod tops;
 mod unknown;
 
-pub use laws::{loop_means_recursion, order_means_no_recursion};
+pub use laws::{
+    first_by_place, loop_means_recursion, no_loop_means_no_recursion, order_means_no_recursion,
+    recursion_by_place,
+};
+pub use looped::{first_recursive, ordered_modules};
 pub use order::modules_in_order;
 pub use resolve::targets_of;
 pub use target::Target;

@@ -22,7 +22,7 @@ fn children_of(alloc: Global, row: &[Target]) -> Result<Vec<u32>, NoMemory>
 }
 
 /// The modules in each module.
-fn children(alloc: Global, rows: &[Items<Target>]) -> Result<Graph, NoMemory>
+pub(crate) fn children(alloc: Global, rows: &[Items<Target>]) -> Result<Graph, NoMemory>
     ensures { IfOk result (λ graph. graph ≡ children rows.now) }
 {
     let mut graph = Graph::new(alloc);
