@@ -18,7 +18,7 @@ use Rattle.lp_spec_bridge.specs.Represents.{Represents, row_of, from_key, pin_ke
 use Rattle.lp_spec_bridge.specs.Inputs.{placed, input_at, inputs_in, inputs_by, input_key}
 use Rattle.lp_spec_bridge.proofs.Passed.{pins_key, cell-entry}
 
-map-same : {A B : Type 0} (f g : A → B) (xs : List A) → ((x : A) → f x ≡ g x) → map f xs ≡ map g xs
+pub map-same : {A B : Type 0} (f g : A → B) (xs : List A) → ((x : A) → f x ≡ g x) → map f xs ≡ map g xs
 map-same f g [] h = refl
 map-same f g (x ∷ xs) h = ap (λ y. y ∷ map f xs) (h x) ∙ ap (λ r. g x ∷ r) (map-same f g xs h)
 

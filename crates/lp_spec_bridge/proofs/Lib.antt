@@ -1,7 +1,9 @@
 pub mod Trails
 mod Computed
+mod ComputedKept
 pub mod Samples
 pub mod Apart
+pub mod Behind
 pub mod Passed
 pub mod Driven
 pub mod Distinct
@@ -14,3 +16,5 @@ pub mod Inputs
 pub mod Loops
 pub mod Readers
 pub mod Tops
+pub mod Kept
+pub mod Named

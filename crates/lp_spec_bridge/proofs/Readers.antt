@@ -18,7 +18,7 @@ use Rattle.lp_spec_bridge.proofs.Trails.{map-map}
 use Rattle.lp_spec_bridge.proofs.Inputs.{inputs_key}
 use Rattle.lp_spec_bridge.proofs.Passed.{cell_key}
 
-map-flat : {A B C : Type 0} (f : B → C) (g : A → List B) (xs : List A) → map f (flat_map g xs) ≡ flat_map (λ x. map f (g x)) xs
+pub map-flat : {A B C : Type 0} (f : B → C) (g : A → List B) (xs : List A) → map f (flat_map g xs) ≡ flat_map (λ x. map f (g x)) xs
 map-flat f g [] = refl
 map-flat f g (x ∷ xs) = map-append f (g x) (flat_map g xs) ∙ ap (λ r. map f (g x) ++ r) (map-flat f g xs)
 

@@ -12,15 +12,18 @@ use Rattle.lp_spec_bridge.specs.Names.{HasNamesApart, has_names_apart}
 use Rattle.lp_spec_bridge.specs.Templates.{IsResolved, at_start, start_of}
 use Rattle.lp_spec_bridge.specs.Inherited.{inherited}
 use Rattle.lp_spec_bridge.specs.Elaborates.{Elaborates}
-use Rattle.lp_spec_design.specs.Graph.{numbered, sources_of, source_of, pins_of, readers, trail, beginning, wire_source, passes}
-use Rattle.lp_spec_design.specs.Instances.{module_instances}
+use Rattle.lp_spec_design.specs.Graph.{numbered, sources_of, source_of, pins_of, readers, readers_of, trail, beginning, wire_source, passes}
+use Rattle.lp_model.specs.declared.graph.Node.{Node as NodeRow}
+use Rattle.lp_spec_design.specs.Instances.{Placed, module_instances}
 use Rattle.lp_spec_design.specs.Nodes.{nodes_of, is_on_its_way, has_wire_loop}
 use Rattle.lp_spec_design.specs.Winners.{IsIn}
 use Rattle.lp_spec_bridge.specs.Driven.{JoinsSingleBits, joins_single_bits}
 use Rattle.lp_spec_bridge.specs.Edges.{drives_of, drivers_among}
 use Rattle.lp_spec_bridge.specs.Tables.{Tables, has_node}
 use Rattle.lp_spec_bridge.specs.Noted.{DriveRow, noted_at, row_key, drive_key}
-use Rattle.lp_spec_bridge.specs.Readers.{leaf_readers, reader_with_node, readers_by}
+use Rattle.lp_spec_bridge.specs.Readers.{leaf_readers, reader_key, reader_with_node, readers_by, readers_behind}
+use Rattle.lp_spec_bridge.specs.Kept.{AreDrives, NotesSources, AllStand, IsKept}
+use Rattle.lp_spec_bridge.specs.Named.{IsNamed}
 use Rattle.lp_spec_bridge.specs.Inputs.{inputs_by, input_key}
 use Rattle.lp_spec_bridge.specs.Keyed.{Keyed, IsApart, AreKeys, keys_of, node_at, way_at, leaf_at}
 use Rattle.lp_spec_bridge.specs.Represents.{Represents, from_key, source_key, cell_of, row_of, pin_key, nodes_at_pins}
@@ -108,3 +111,27 @@ LeavesRead = (s : Structure) (ks : Keyed) (t : Tables) → Represents s ks t →
 -- all readers, each with its node
 abbrev pub ReadersByNumber : Type 0
 ReadersByNumber = (texts : List (List ℕ)) (s : Structure) (t : Tables) → HasNamesApart s → Elaborates texts s t → map (reader_with_node s (keys_of s) t) (readers_by s t) ≡ readers s
+
+-- the readers to which an edge leads
+abbrev pub ReadersBehind : Type 0
+ReadersBehind = (texts : List (List ℕ)) (s : Structure) (t : Tables) → HasNamesApart s → Elaborates texts s t → (fuel e : ℕ) → e < length t.edges → map (reader_key s (keys_of s) t) (readers_behind s t fuel e) ≡ readers_of s fuel (way_at (keys_of s) e)
+
+-- where each node has the first row that was noted for it, its source by number is its source by path
+abbrev pub SourcesKept : Type 0
+SourcesKept = (s : Structure) (t : Tables) (rows : List DriveRow) → HasNamesApart s → JoinsSingleBits s → AreDrives s t rows → NotesSources s t rows → map (λ (x : NodeRow). source_key s (keys_of s) t x.source) t.nodes ≡ map (source_of s) (nodes_of s)
+
+-- rows that were resolved once for a module give cell instances their cells
+abbrev pub CellsKept : Type 0
+CellsKept = (s : Structure) (t : Tables) (ls : List Leaf) (keyed : List Placed) → AllStand s t ls keyed → map (λ (l : Leaf). slice_get s.cells l.cell.0) ls ≡ map (λ (a : Placed). cell_at s a.path a.instance) keyed
+
+-- and the nodes at their pins
+abbrev pub PinsKept : Type 0
+PinsKept = (s : Structure) (t : Tables) (ls : List Leaf) (keyed : List Placed) → AllStand s t ls keyed → map (λ (l : Leaf). map (pin_key (keys_of s)) (row_of s t l)) ls ≡ map (λ (a : Placed). nodes_at_pins s a (cell_at s a.path a.instance)) keyed
+
+-- tables that keep all of this represent the design
+abbrev pub KeptRepresents : Type 0
+KeptRepresents = (s : Structure) (t : Tables) → HasNamesApart s → JoinsSingleBits s → IsKept s t → Represents s (keys_of s) t
+
+-- with the names of each module's bits, instance by instance, they are the elaborated netlist
+abbrev pub KeptElaborates : Type 0
+KeptElaborates = (texts : List (List ℕ)) (s : Structure) (t : Tables) → HasNamesApart s → JoinsSingleBits s → IsKept s t → IsNamed texts s t → Elaborates texts s t

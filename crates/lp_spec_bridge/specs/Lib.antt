@@ -11,4 +11,6 @@ pub mod Inherited
 pub mod Noted
 pub mod Inputs
 pub mod Readers
+pub mod Kept
+pub mod Named
 pub mod Laws

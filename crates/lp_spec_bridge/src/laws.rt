@@ -1,5 +1,5 @@
 //! Laws that join numbers to paths: each is the clause of a function that does nothing.
-ghost use Rattle.lp_spec_bridge.specs.Laws.{TrailsByNumber, EndsByNumber, WireSourcesByNumber, PassesByNumber, LoopsByNumber, CellsByNumber, PinsByNumber, DriversListed, KeysApart, AllNoted, FirstNoted, NamesTested, SingleBitsTested, InputsByNumber, OwnLoopsByNumber, WireLoopsByNumber, LeavesRead, ReadersByNumber, TemplatesServe, DomainsInherit};
+ghost use Rattle.lp_spec_bridge.specs.Laws.{TrailsByNumber, EndsByNumber, WireSourcesByNumber, PassesByNumber, LoopsByNumber, CellsByNumber, PinsByNumber, DriversListed, KeysApart, AllNoted, FirstNoted, NamesTested, SingleBitsTested, InputsByNumber, OwnLoopsByNumber, WireLoopsByNumber, LeavesRead, ReadersByNumber, ReadersBehind, TemplatesServe, DomainsInherit, SourcesKept, CellsKept, PinsKept, KeptRepresents, KeptElaborates};
 
 /// The way back from a node by number is its way back by paths.
 #[tactic(auto, using(crate::proofs::Trails::trail_key))]
@@ -98,4 +98,31 @@ pub fn leaves_read_by_number()
 /// All readers of an elaborated netlist by number are those by paths, in order, where names are apart.
 pub fn readers_by_number()
     ensures { ReadersByNumber }
+{}
+
+/// The readers to which an edge leads are by number those by paths, in order, where names are apart.
+#[tactic(auto, using(crate::proofs::Behind::behind_key))]
+pub fn readers_behind_an_edge()
+    ensures { ReadersBehind }
+{}
+
+/// Nodes whose source is the first row that was noted for them have their sources by paths.
+pub fn noted_are_sources()
+    ensures { SourcesKept }
+{}
+
+/// Cell instances whose rows were resolved once for their modules have their cells and the nodes at their pins.
+pub fn rows_serve()
+    ensures cells { CellsKept }
+    ensures pins { PinsKept }
+{}
+
+/// Tables that keep noted drives and rows by module represent the design.
+pub fn kept_tables_represent()
+    ensures { KeptRepresents }
+{}
+
+/// With the names of each module's bits, instance by instance, they are the elaborated netlist.
+pub fn kept_tables_elaborate()
+    ensures { KeptElaborates }
 {}
