@@ -30,14 +30,14 @@ positive : (n : ℕ) → (n == 0) ≡ false → 0 < n
 positive zero e = absurd (true≢false e)
 positive (suc n) e = omega arith
 
-near-low : (s : Stretch) → 0 < s.count → s.start ≤ near_number s
+pub near-low : (s : Stretch) → 0 < s.count → s.start ≤ near_number s
 near-low s h = by (is_input s.bit.port)
   where
     by : (b : Bool) → s.start ≤ (if b then (s.start + s.count) - 1 else s.start)
     by true = omega (arith, h)
     by false = omega arith
 
-near-high : (s : Stretch) → 0 < s.count → near_number s < s.start + s.count
+pub near-high : (s : Stretch) → 0 < s.count → near_number s < s.start + s.count
 near-high s h = by (is_input s.bit.port)
   where
     by : (b : Bool) → (if b then (s.start + s.count) - 1 else s.start) < s.start + s.count
@@ -87,7 +87,7 @@ module _ (p : Project) (a : Additions) (has : HasChains p a) where
             is = named (Some s) e;
           })
 
-  count-some : (s : Stretch) → IsIn s chains → 0 < s.count
+  pub count-some : (s : Stretch) → IsIn s chains → 0 < s.count
   count-some s h = positive s.count (is-of p a.plan s h).1
 
   -- a free name is no net's

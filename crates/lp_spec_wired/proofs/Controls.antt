@@ -45,7 +45,7 @@ has-number : {A : Type 0} (x : A) (xs : List A) (n : ℕ) → IsIn x xs → (k :
 has-number x [] n h = absurd h
 has-number x (y ∷ xs) n h = elim h [ inl is ↦ (n, inl (ap (λ z. (n, z)) is)) | inr r ↦ let found = has-number x xs (n + 1) r in (found.0, inr found.1) ]
 
-filter-short : {A : Type 0} (p : A → Bool) (xs : List A) → length (filter p xs) ≤ length xs
+pub filter-short : {A : Type 0} (p : A → Bool) (xs : List A) → length (filter p xs) ≤ length xs
 filter-short p [] = omega arith
 filter-short p (x ∷ xs) = by (p x) (filter-short p xs)
   where
@@ -82,7 +82,7 @@ module _ (made : List Part) (k : Node) (x : Path) where
   here = parts_in made x
 
   -- what stands in an instance
-  in-here : (y : ℕ × Part) → IsIn y here → IsIn y.1 made × (y.1.path ≡ x)
+  pub in-here : (y : ℕ × Part) → IsIn y here → IsIn y.1 made × (y.1.path ≡ x)
   in-here y h =
       let kept = of-filter (λ (t : Part). same_path t.path x) y.1 made (of-numbered 0 y (filter (λ (t : Part). same_path t.path x) made) h) in
       (kept.0, path-true y.1.path x kept.1)
@@ -92,13 +92,13 @@ module _ (made : List Part) (k : Node) (x : Path) where
       both (same_part_kind kind y.1.kind) (same_path x y.1.path && same_node k y.1.control) (ap (same_part_kind kind) a ∙ kind-self kind)
       (both (same_path x y.1.path) (same_node k y.1.control) (ap (same_path x) b ∙ path-self x) (ap (same_node k) c ∙ node-self k))
 
-  part-kind : (kind : Kind) (y : ℕ × Part) → same_part (part_at k x kind) y.1 ≡ true → (y.1.kind ≡ kind) × (y.1.control ≡ k)
+  pub part-kind : (kind : Kind) (y : ℕ × Part) → same_part (part_at k x kind) y.1 ≡ true → (y.1.kind ≡ kind) × (y.1.control ≡ k)
   part-kind kind y e =
       let rest = other (same_part_kind kind y.1.kind) (same_path x y.1.path && same_node k y.1.control) e in
       (sym (kind-true kind y.1.kind (one (same_part_kind kind y.1.kind) _ e)), sym (node-true k y.1.control (other (same_path x y.1.path) (same_node k y.1.control) rest)))
 
   -- a part that is made stands there with a number
-  found-part : (kind : Kind) → has_part made (part_at k x kind) ≡ true → (y : ℕ × Part) × IsIn y here × (same_part (part_at k x kind) y.1 ≡ true) × (first (λ z. same_part (part_at k x kind) z.1) here ≡ Some y)
+  pub found-part : (kind : Kind) → has_part made (part_at k x kind) ≡ true → (y : ℕ × Part) × IsIn y here × (same_part (part_at k x kind) y.1 ≡ true) × (first (λ z. same_part (part_at k x kind) z.1) here ≡ Some y)
   found-part kind h =
       let some = of-any (same_part (part_at k x kind)) made h in
       let rest = other (same_part_kind kind some.0.kind) (same_path x some.0.path && same_node k some.0.control) some.2 in

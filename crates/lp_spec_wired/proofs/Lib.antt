@@ -1,5 +1,6 @@
 mod Added
 mod Apart
+mod Assigns
 mod Bits
 mod Chains
 mod Computed
@@ -10,6 +11,8 @@ mod Intervals
 mod Kept
 mod Led
 mod Lists
+mod Others
+mod Ports
 mod Samples
 mod Supplies
 mod Tops

@@ -1,20 +1,20 @@
 -- The statements of the laws of this crate (own rule).
-use Rattle.std.specs.Prelude.{◌≡◌, ◌<◌, ◌≤◌, ◌+◌, ◌^◌, ℕ, Bool, true, false, List, [], ◌∷◌, ◌++◌, filter, length, Option, Some, slice_get, bytes_eq}
+use Rattle.std.specs.Prelude.{◌≡◌, ◌<◌, ◌≤◌, ◌+◌, ◌-◌, ◌^◌, if◌then◌else◌, ℕ, Bool, true, false, List, [], ◌∷◌, ◌++◌, filter, map, length, Option, Some, None, slice_get, bytes_eq, flat_map}
 use Rattle.std.specs.List.{list_any}
-use Rattle.lp_model.specs.NetlistView.{PortView, ModuleView}
+use Rattle.lp_model.specs.NetlistView.{BitView, NetBit, SelectBit, ConstBit, PortView, AssignView, ModuleView}
 use Rattle.lp_spec_design.specs.Keys.{Name, Path, Node, Inner, Way, Outer, PortBit, Source, From, same_index}
 use Rattle.lp_spec_design.specs.Netlists.{Structure, module_at, indices, is_input}
-use Rattle.lp_spec_design.specs.Graph.{from_port}
+use Rattle.lp_spec_design.specs.Graph.{numbered, some_of, from_port, ports_in, from_assign}
 use Rattle.lp_spec_design.specs.Domains.{BoundaryBit, boundary, way_of}
 use Rattle.lp_spec_design.specs.Winners.{IsIn}
 use Rattle.lp_spec_design.specs.Intents.{FromPort, FromSwitch}
 use Rattle.lp_spec_faults.specs.Modules.{is_own}
-use Rattle.lp_spec_realises.specs.Projects.{Project, network_of}
+use Rattle.lp_spec_realises.specs.Projects.{Project, network_of, port_of_origin}
 use Rattle.lp_spec_realises.specs.Operators.{Placement}
 use Rattle.lp_spec_written.specs.Places.{instances, Standing, Switching, Plan}
-use Rattle.lp_spec_written.specs.Nets.{Stretch, stretches, leads_constant, chain_net}
-use Rattle.lp_spec_written.specs.Supplies.{switch_of, goes_in}
-use Rattle.lp_spec_written.specs.Routes.{Part, PortOut, PortIn, has_part}
+use Rattle.lp_spec_written.specs.Nets.{Stretch, stretches, stretches_in, leads_constant, chain_net, constant_assign, is_inside, renamed_assign}
+use Rattle.lp_spec_written.specs.Supplies.{switch_of, goes_in, origin_bits}
+use Rattle.lp_spec_written.specs.Routes.{Part, PortOut, PortIn, has_part, control_assigns}
 use Rattle.lp_spec_written.specs.Written.{Additions}
 use Rattle.lp_spec_hub.specs.Spots.{Spot, OfNode, Before, Lead, Carried, Routed, Done, on_way, own_spot}
 use Rattle.lp_spec_hub.specs.Drives.{drive, part_at}
@@ -281,3 +281,125 @@ NodesAreNotLed =
     → leads_constant p.structure o.path o.asked.bit ≡ true
     → name_by p a (OfNode (Inner n i x)) ≡ name_by p a (Lead w)
     → ⊥
+
+-- a net of a chain is driven from no port: no input port of its instance has its name
+abbrev pub ChainNetsHaveNoPorts : Type 0
+ChainNetsHaveNoPorts =
+    (p : Project) (a : Additions) (w : Structure)
+    → IsWrittenAt p a w
+    → LeavesNames p.structure
+    → (x : Path) (m : ModuleView)
+    → module_at p.structure x ≡ Some m
+    → (here : ModuleView)
+    → module_at w x ≡ Some here
+    → (k : ℕ)
+    → ports_in w x (chain_net k) None here ≡ []
+
+-- two parts of control routes that have one net bit are one
+abbrev pub ControlsAreApart : Type 0
+ControlsAreApart =
+    (p : Project) (a : Additions)
+    → length a.controls < 2 ^ 64
+    → (t u : Part)
+    → has_part a.controls t ≡ true
+    → has_part a.controls u ≡ true
+    → name_by p a (Routed t) ≡ name_by p a (Routed u)
+    → t ≡ u
+
+-- a net bit that is none of the source's, of a wire that an operator makes, or of a constant's own net
+pub record IsNoOther (p : Project) (a : Additions) (k : Node) : Type 0 where
+  pub source : (n : Name) (i : Option ℕ) (x : Path) → is_own n ≡ false → name_by p a (OfNode (Inner n i x)) ≡ k → ⊥
+  pub made : (w : Way) (j : ℕ) (o : Standing) → slice_get (on_way a.plan.operators w) j ≡ Some o → name_by p a (own_spot w j o) ≡ k → ⊥
+  pub led : (w : Way) (o : Standing) → slice_get (on_way a.plan.operators w) 0 ≡ Some o → leads_constant p.structure o.path o.asked.bit ≡ true → name_by p a (Lead w) ≡ k → ⊥
+
+-- an origin that has a net: in no instance is that the net bit of a wire that is no supply's and no control's
+abbrev pub SuppliesAreNoOthers : Type 0
+SuppliesAreNoOthers =
+    (p : Project) (a : Additions)
+    → HasChains p a
+    → ((o : Standing) → IsIn o a.plan.operators → IsIn o.path (instances p))
+    → HasOneBit p
+    → ((s : Stretch) → IsIn s (stretches p a.plan) → s.start + s.count ≤ 2 ^ 64)
+    → (o : ℕ) (n : Name)
+    → origin_bits p a.plan o ≡ NetBit n ∷ []
+    → (x : Path)
+    → IsNoOther p a (name_by p a (Carried o x))
+
+-- nor is the net bit of a part of a control route
+abbrev pub ControlsAreNoOthers : Type 0
+ControlsAreNoOthers =
+    (p : Project) (a : Additions)
+    → HasChains p a
+    → ((o : Standing) → IsIn o a.plan.operators → IsIn o.path (instances p))
+    → HasOneBit p
+    → ((s : Stretch) → IsIn s (stretches p a.plan) → s.start + s.count ≤ 2 ^ 64)
+    → (t : Part)
+    → has_part a.controls t ≡ true
+    → IsNoOther p a (name_by p a (Routed t))
+
+-- the net bit of a supply is not that of a part of a control route
+abbrev pub ControlsAreNotSupplies : Type 0
+ControlsAreNotSupplies =
+    (p : Project) (a : Additions)
+    → (o : ℕ) (n : Name)
+    → origin_bits p a.plan o ≡ NetBit n ∷ []
+    → (x : Path)
+    → (t : Part)
+    → has_part a.controls t ≡ true
+    → name_by p a (Carried o x) ≡ name_by p a (Routed t)
+    → ⊥
+
+-- port origins have ports of their own, and switches have numbers of their own
+pub record HasSupplyNames (p : Project) (a : Additions) : Type 0 where
+  pub ports : (o r : ℕ) → slice_get (network_of p).origins o ≡ Some FromPort → slice_get (network_of p).origins r ≡ Some FromPort → port_of_origin p o ≡ port_of_origin p r → o ≡ r
+  pub switches : (o r : ℕ) (s t : Switching) → switch_of a.plan o ≡ Some s → switch_of a.plan r ≡ Some t → s.number ≡ t.number → o ≡ r
+  pub numbers : (o : ℕ) (s : Switching) → switch_of a.plan o ≡ Some s → s.number < 2 ^ 64
+
+-- two supplies that have one net bit are the same origin in the same instance
+abbrev pub SuppliesAreApart : Type 0
+SuppliesAreApart =
+    (p : Project) (a : Additions)
+    → HasSupplyNames p a
+    → (o r : ℕ) (n m : Name)
+    → origin_bits p a.plan o ≡ NetBit n ∷ []
+    → origin_bits p a.plan r ≡ NetBit m ∷ []
+    → (x y : Path)
+    → name_by p a (Carried o x) ≡ name_by p a (Carried r y)
+    → (o ≡ r) × (x ≡ y)
+
+-- a net of a chain that is not a constant's own is driven by no assign that is added
+abbrev pub AddedAssignsDriveNoChain : Type 0
+AddedAssignsDriveNoChain =
+    (p : Project) (a : Additions)
+    → HasChains p a
+    → ((s : Stretch) → IsIn s (stretches p a.plan) → s.start + s.count ≤ 2 ^ 64)
+    → (s : Stretch)
+    → IsIn s (stretches p a.plan)
+    → (k : ℕ)
+    → HasNet s k
+    → (leads_constant p.structure s.path s.bit ≡ true → s.start < k)
+    → (j : ℕ)
+    → flat_map (from_assign s.path (chain_net k) None) (numbered j (some_of (constant_assign p) (stretches_in a.chains s.path) ++ control_assigns a.chains a.controls s.path)) ≡ []
+
+-- a bit that has no name of an addition
+abbrev pub IsFreeBit : BitView → Type 0
+IsFreeBit (NetBit n) = is_own n ≡ false
+IsFreeBit (SelectBit n i) = is_own n ≡ false
+IsFreeBit (ConstBit c) = Unit {0}
+
+-- a net of a chain that takes no bit's place is driven by no assign of the source, where those assign to no name of an addition
+abbrev pub SourceAssignsDriveNoChain : Type 0
+SourceAssignsDriveNoChain =
+    (p : Project) (a : Additions)
+    → HasChains p a
+    → ((s : Stretch) → IsIn s (stretches p a.plan) → s.start + s.count ≤ 2 ^ 64)
+    → (s : Stretch)
+    → IsIn s (stretches p a.plan)
+    → (k : ℕ)
+    → HasNet s k
+    → (is_inside s.path s.bit ≡ true → k ≡ (if is_input s.bit.port then (s.start + s.count) - 1 else s.start) → ⊥)
+    → (m : ModuleView)
+    → module_at p.structure s.path ≡ Some m
+    → ((q : AssignView) (b : BitView) → IsIn q m.assigns → IsIn b q.left → IsFreeBit b)
+    → (j : ℕ)
+    → flat_map (from_assign s.path (chain_net k) None) (numbered j (map (renamed_assign a.chains s.path) m.assigns)) ≡ []

@@ -2,7 +2,8 @@
 ghost use Rattle.lp_spec_wired.specs.Additions.{AreApart};
 ghost use Rattle.lp_spec_wired.specs.Laws.{ChainNetsAreApart, ControlsComeDown, InnerReadsComeDown, InputsComeDown, NodesAreApart, NodesAreNotMade};
 ghost use Rattle.lp_spec_wired.specs.Laws.{LeadsAreApart, LeadsAreNotMade, NodesAreNotLed, OperatorWiresAreApart, PortsComeDown, SwitchesComeDown};
-ghost use Rattle.lp_spec_wired.specs.Laws.{TopInputsComeIn, TopReadsComeIn};
+ghost use Rattle.lp_spec_wired.specs.Laws.{AddedAssignsDriveNoChain, ChainNetsHaveNoPorts, ControlsAreApart, ControlsAreNoOthers, ControlsAreNotSupplies};
+ghost use Rattle.lp_spec_wired.specs.Laws.{SourceAssignsDriveNoChain, SuppliesAreApart, SuppliesAreNoOthers, TopInputsComeIn, TopReadsComeIn};
 
 /// A supply port goes from the top down to each instance that has it.
 pub fn supply_ports_come_down()
@@ -77,4 +78,44 @@ pub fn constant_nets_are_apart()
 /// The net bit of a net bit of the source is not the net of its own by which a constant comes to a way.
 pub fn node_names_are_not_led()
     ensures { NodesAreNotLed }
+{}
+
+/// No input port of an instance has the name of a net of a chain.
+pub fn chain_nets_have_no_ports()
+    ensures { ChainNetsHaveNoPorts }
+{}
+
+/// Two parts of control routes that have one net bit are one.
+pub fn controls_are_apart()
+    ensures { ControlsAreApart }
+{}
+
+/// In no instance is the net bit of a supply that of a wire which is no supply's and no control's.
+pub fn supplies_are_no_others()
+    ensures { SuppliesAreNoOthers }
+{}
+
+/// The net bit of a part of a control route is that of no wire which is no supply's and no control's.
+pub fn controls_are_no_others()
+    ensures { ControlsAreNoOthers }
+{}
+
+/// The net bit of a supply is not that of a part of a control route.
+pub fn controls_are_not_supplies()
+    ensures { ControlsAreNotSupplies }
+{}
+
+/// Two supplies that have one net bit are the same origin in the same instance.
+pub fn supplies_are_apart()
+    ensures { SuppliesAreApart }
+{}
+
+/// A net of a chain that is not a constant's own is driven by no assign that is added.
+pub fn added_assigns_drive_no_chain()
+    ensures { AddedAssignsDriveNoChain }
+{}
+
+/// A net of a chain that takes no bit's place is driven by no assign of the source.
+pub fn source_assigns_drive_no_chain()
+    ensures { SourceAssignsDriveNoChain }
 {}
