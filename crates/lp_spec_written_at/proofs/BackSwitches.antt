@@ -58,10 +58,10 @@ first-number j (z ∷ ks) y apart (inr h) =
     (differs z.asked.origin y.1.asked.origin (λ e. apart.0 (subst (λ n. IsIn n (map origin_of ks)) (sym e) (in-map origin_of y.1 ks (of-numbered (j + 1) y ks h)))))
     ∙ first-number (j + 1) ks y apart.1 h
 
-abbrev asked_origin : SwitchAt → ℕ
+abbrev pub asked_origin : SwitchAt → ℕ
 asked_origin x = x.origin
 
-origins-apart : (j : ℕ) (os : List Origin) → IsApart (map asked_origin (switches_among (numbered j os)))
+pub origins-apart : (j : ℕ) (os : List Origin) → IsApart (map asked_origin (switches_among (numbered j os)))
 origins-apart j [] = tt
 origins-apart j (FromPort ∷ os) = origins-apart (j + 1) os
 origins-apart j (FromSwitch i c g ∷ os) = (absent, origins-apart (j + 1) os)

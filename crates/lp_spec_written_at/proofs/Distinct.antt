@@ -19,7 +19,7 @@ use Rattle.lp_spec_written_at.proofs.Lists.{none-any, first-apart}
 use Rattle.lp_spec_written_at.proofs.Instances.{apart-flat, drop-tail}
 use Rattle.lp_spec_written_at.proofs.SourceCells.{placed-true, target-of, instances-named}
 
-apart-distinct : (xs : List Placed) → IsApart xs → are_distinct xs ≡ true
+pub apart-distinct : (xs : List Placed) → IsApart xs → are_distinct xs ≡ true
 apart-distinct [] apart = refl
 apart-distinct (a ∷ xs) apart = both (not (has_placed xs a)) (are_distinct xs) (ap not (none-any (same_placed a) xs (λ b h. by b h (same_placed a b) refl))) (apart-distinct xs apart.1)
   where
@@ -27,7 +27,7 @@ apart-distinct (a ∷ xs) apart = both (not (has_placed xs a)) (are_distinct xs)
     by b h true e = absurd (apart.0 (subst (λ z. IsIn z xs) (sym (placed-true a b e)) h))
     by b h false e = refl
 
-named-once : (xs : List InstanceView) → are_apart (map (λ (x : InstanceView). x.name) xs) ≡ true → IsApart xs
+pub named-once : (xs : List InstanceView) → are_apart (map (λ (x : InstanceView). x.name) xs) ≡ true → IsApart xs
 named-once [] e = tt
 named-once (x ∷ xs) e = (
   λ h.
@@ -37,7 +37,7 @@ named-once (x ∷ xs) e = (
 )
 
 module _ (p : Project) (f : IsFree p) where
-  abbrev inside : ℕ → Path → List Placed
+  abbrev pub inside : ℕ → Path → List Placed
   inside depth = cells_below p.structure depth
 
   IsUnder : Path → Placed → Type 0
@@ -60,7 +60,7 @@ module _ (p : Project) (f : IsFree p) where
   heads : (x y : Name) (q : Path) → x ∷ q ≡ y ∷ q → x ≡ y
   heads x y q e = cc
 
-  one-of : (q : Path) (m : ModuleView) → module_at p.structure q ≡ Some m → (x y : InstanceView) → IsIn x m.instances → IsIn y m.instances → x.name ≡ y.name → x ≡ y
+  pub one-of : (q : Path) (m : ModuleView) → module_at p.structure q ≡ Some m → (x y : InstanceView) → IsIn x m.instances → IsIn y m.instances → x.name ≡ y.name → x ≡ y
   one-of q m e x y h g same =
       let mine = first-apart m.instances x (instances-named p f q m e) h in
       let its = first-apart m.instances y (instances-named p f q m e) g in
@@ -89,7 +89,7 @@ module _ (p : Project) (f : IsFree p) where
   by-targets depth q m e x y b h g (inr i) (inl j) = let two = cells-under depth (y.name ∷ q) b j in let long : length b.path ≡ length q = ap (λ (z : Placed). length z.path) i.2 in absurd (omega (arith, two.2, long))
   by-targets depth q m e x y b h g (inr i) (inr j) = one-of q m e x y h g (ap (λ (z : Placed). z.instance) (sym i.2 ∙ j.2))
 
-  cells-apart : (depth : ℕ) (q : Path) → IsApart (inside depth q)
+  pub cells-apart : (depth : ℕ) (q : Path) → IsApart (inside depth q)
   cells-apart zero q = tt
   cells-apart (suc depth) q = by (module_at p.structure q) refl (λ i. cells-apart depth (i ∷ q))
     where

@@ -29,7 +29,7 @@ use Rattle.lp_spec_written_at.proofs.Modules.{from-modules}
 
 -- ---- lists without repetition
 
-apart-append : {A : Type 0} (xs ys : List A) → IsApart xs → IsApart ys → ((z : A) → IsIn z xs → IsIn z ys → ⊥) → IsApart (xs ++ ys)
+pub apart-append : {A : Type 0} (xs ys : List A) → IsApart xs → IsApart ys → ((z : A) → IsIn z xs → IsIn z ys → ⊥) → IsApart (xs ++ ys)
 apart-append [] ys one two none = two
 apart-append (x ∷ xs) ys one two none = (λ h. elim (in-either x xs ys h) [ inl l ↦ one.0 l | inr r ↦ none x (inl refl) r ], apart-append xs ys one.1 two (λ z h g. none z (inr h) g))
 

@@ -18,3 +18,7 @@ pub mod Back
 pub mod BackSwitches
 pub mod NoOthers
 pub mod Distinct
+pub mod OperatorsApart
+pub mod CellsApart
+pub mod ModuleNames
+pub mod InstanceNames

@@ -35,7 +35,7 @@ use Rattle.lp_spec_written_at.proofs.Lists.{none-first, first-head, first-left, 
 abbrev netlist : Project → Additions → Structure
 netlist p a = netlist_of p (written_by p a)
 
-abbrev item : Project → Additions → Path → Option ModuleView
+abbrev pub item : Project → Additions → Path → Option ModuleView
 item p a x = option_and_then (λ m. Some (written_module p a x m)) (module_at p.structure x)
 
 -- ---- modules of the source
@@ -134,13 +134,13 @@ module _ (p : Project) (a : Additions) (f : IsFree p) (listed : HasListedCells p
 
   -- ---- names of modules
 
-  abbrev IsNumbered : Path → Type 0
+  abbrev pub IsNumbered : Path → Type 0
   IsNumbered x = IsIn x (instances p)
 
   small : (x : Path) → IsNumbered x → instance_number p x ≤ 1000000
   small x h = let less = number-small (instances p) x h in let few = f.few in omega (arith, less, few)
 
-  same-instance : (x y : Path) (m n : ModuleView) → IsNumbered x → IsNumbered y → IsIn m s.modules → IsIn n s.modules → bytes_eq (module_name p y n.name) (module_name p x m.name) ≡ true → x ≡ y
+  pub same-instance : (x y : Path) (m n : ModuleView) → IsNumbered x → IsNumbered y → IsIn m s.modules → IsIn n s.modules → bytes_eq (module_name p y n.name) (module_name p x m.name) ≡ true → x ≡ y
   same-instance [] [] m n h g u v e = refl
   same-instance [] (i ∷ y) m n h g u v e = absurd (false≢true (sym (own-differs (module_name p (i ∷ y) n.name) m.name (own-module p i y n.name) (free-module m u)) ∙ e))
   same-instance (i ∷ x) [] m n h g u v e = absurd (false≢true (sym (differs-own n.name (module_name p (i ∷ x) m.name) (free-module n v) (own-module p i x m.name)) ∙ e))

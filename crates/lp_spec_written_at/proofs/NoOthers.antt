@@ -33,13 +33,13 @@ use Rattle.lp_spec_written_at.proofs.BackSwitches.{switches-from-plan}
 
 -- ---- where a cell instance stands
 
-record StandsIn (t : Structure) (a : Placed) : Type 0 where
-  owner : ModuleView
-  at : module_at t a.path ≡ Some owner
-  instance : InstanceView
-  among : IsIn instance owner.instances
-  named : a.instance ≡ instance.name
-  outside : module_named t instance.target ≡ None
+pub record StandsIn (t : Structure) (a : Placed) : Type 0 where
+  pub owner : ModuleView
+  pub at : module_at t a.path ≡ Some owner
+  pub instance : InstanceView
+  pub among : IsIn instance owner.instances
+  pub named : a.instance ≡ instance.name
+  pub outside : module_named t instance.target ≡ None
 
 outside-of : (inside : Path → List Placed) (q : Path) (n : Name) (o : Option ModuleView) (k : Option CellView) (a : Placed) → IsIn a (cells_of_target inside q n o k)
     → IsIn a (inside (n ∷ q)) ⊎ ((o ≡ None) × (a ≡ record { path = q; instance = n }))
@@ -69,7 +69,7 @@ module _ (t : Structure) where
             }
           ]
 
-  stands-in : (a : Placed) → IsIn a (cell_instances t) → StandsIn t a
+  pub stands-in : (a : Placed) → IsIn a (cell_instances t) → StandsIn t a
   unfolding cell_instances
   stands-in a h = stands-below 64 [] a h
 

@@ -26,10 +26,10 @@ use Rattle.lp_spec_written_at.proofs.Cells.{first-cell, found-in}
 
 -- ---- names of operators by their numbers
 
-Numbered : ℕ → ℕ → Name → Name → Type 0
+pub Numbered : ℕ → ℕ → Name → Name → Type 0
 Numbered from top start n = (c : ℕ) × (from ≤ c) × (c < top) × (n ≡ with_number start c)
 
-IsNamedFrom : ℕ → ℕ → ℕ → Name → Type 0
+pub IsNamedFrom : ℕ → ℕ → ℕ → Name → Type 0
 IsNamedFrom j k top n = Numbered j top (codes "lp_i_") n ⊎ Numbered k top (codes "lp_l_") n
 
 later : (from next top : ℕ) (start n : Name) → from ≤ next → Numbered next top start n → Numbered from top start n
@@ -40,7 +40,7 @@ either-later : (j k i l top : ℕ) (n : Name) → j ≤ i → k ≤ l → IsName
 unfolding IsNamedFrom
 either-later j k i l top n h g c = elim c [ inl one ↦ inl (later j i top (codes "lp_i_") n h one) | inr two ↦ inr (later k l top (codes "lp_l_") n g two) ]
 
-named-from : (j k top : ℕ) (os : List Operator) (n : Name) → j + length os ≤ top → k + length os ≤ top → IsIn n (operator_names j k os) → IsNamedFrom j k top n
+pub named-from : (j k top : ℕ) (os : List Operator) (n : Name) → j + length os ≤ top → k + length os ≤ top → IsIn n (operator_names j k os) → IsNamedFrom j k top n
 unfolding Numbered IsNamedFrom
 named-from j k top [] n h g at = absurd at
 named-from j k top (Clamp t i ∷ os) n h g at = elim at [
@@ -64,7 +64,7 @@ abbrev pub letter : Name → ℕ
 letter (a ∷ b ∷ c ∷ d ∷ rest) = d
 letter _ = 0
 
-clamp-apart : (j k top : ℕ) (n : Name) → j < top → top ≤ 1000000000 → IsNamedFrom (j + 1) k top n → with_number (codes "lp_i_") j ≡ n → ⊥
+pub clamp-apart : (j k top : ℕ) (n : Name) → j < top → top ≤ 1000000000 → IsNamedFrom (j + 1) k top n → with_number (codes "lp_i_") j ≡ n → ⊥
 unfolding Numbered IsNamedFrom
 clamp-apart j k top n h small (inl c) e =
     let same : decimal j ≡ decimal c.0 = ap (λ (z : Name). drop 5 z) (e ∙ c.3) in
@@ -72,7 +72,7 @@ clamp-apart j k top n h small (inl c) e =
     omega (arith, number, c.1)
 clamp-apart j k top n h small (inr c) e = let eq : ◌≡◌ {A = ℕ} 105 108 = ap letter (e ∙ c.3) in absurd (omega (arith, eq))
 
-shift-apart : (j k top : ℕ) (n : Name) → k < top → top ≤ 1000000000 → IsNamedFrom j (k + 1) top n → with_number (codes "lp_l_") k ≡ n → ⊥
+pub shift-apart : (j k top : ℕ) (n : Name) → k < top → top ≤ 1000000000 → IsNamedFrom j (k + 1) top n → with_number (codes "lp_l_") k ≡ n → ⊥
 unfolding Numbered IsNamedFrom
 shift-apart j k top n h small (inr c) e =
     let same : decimal k ≡ decimal c.0 = ap (λ (z : Name). drop 5 z) (e ∙ c.3) in
@@ -80,10 +80,10 @@ shift-apart j k top n h small (inr c) e =
     omega (arith, number, c.1)
 shift-apart j k top n h small (inl c) e = let eq : ◌≡◌ {A = ℕ} 108 105 = ap letter (e ∙ c.3) in absurd (omega (arith, eq))
 
-abbrev operator_of : Linked → Operator
+abbrev pub operator_of : Linked → Operator
 operator_of z = z.0.asked.operator
 
-operators-length : (zs : List Linked) → length (map operator_of zs) ≡ length zs
+pub operators-length : (zs : List Linked) → length (map operator_of zs) ≡ length zs
 operators-length [] = refl
 operators-length (q ∷ zs) = ap suc (operators-length zs)
 

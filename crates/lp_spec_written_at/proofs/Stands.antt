@@ -46,7 +46,7 @@ filter-all : {A : Type 0} (t : A → Bool) (xs : List A) → ((x : A) → IsIn x
 filter-all t [] all = refl
 filter-all t (x ∷ xs) all = ap (λ b. cond b (x ∷ filter t xs) (filter t xs)) (all x (inl refl)) ∙ ap (λ r. x ∷ r) (filter-all t xs (λ y h. all y (inr h)))
 
-kept-some : {A : Type 0} (t : A → Bool) (a : A) (xs : List A) → IsIn a xs → t a ≡ true → 1 ≤ length (filter t xs)
+pub kept-some : {A : Type 0} (t : A → Bool) (a : A) (xs : List A) → IsIn a xs → t a ≡ true → 1 ≤ length (filter t xs)
 kept-some t a [] h e = absurd h
 kept-some t a (x ∷ xs) h e = by (t x) refl h (λ r. kept-some t a xs r e)
   where
@@ -274,7 +274,7 @@ is-switching p l y s e =
         }
 
 module _ (p : Project) (l : Lists) (cells : HasSwitchCells p l) where
-  switch-there : (x : SwitchAt) → IsIn x (all_switches p) → (s : Switching) × (switch_of (plan p l) x.origin ≡ Some s) × IsSwitching p l x s
+  pub switch-there : (x : SwitchAt) → IsIn x (all_switches p) → (s : Switching) × (switch_of (plan p l) x.origin ≡ Some s) × IsSwitching p l x s
   switch-there x h =
       let y = number-of 0 (all_switches p) x h in
       let cell = some-is (cell_numbered p (switch_chosen p l y.0.1)) (ap (λ z. is_some (cell_numbered p (switch_chosen p l z))) y.2 ∙ cells.chosen x h) in

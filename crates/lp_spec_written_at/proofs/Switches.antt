@@ -31,7 +31,7 @@ use Rattle.lp_spec_written_at.proofs.Operators.{not-equal, letter}
 
 -- ---- the first in lists
 
-first-kept : {A : Type 0} (t u : A → Bool) (xs : List A) (x : A) → first t xs ≡ Some x → u x ≡ true → first t (filter u xs) ≡ Some x
+pub first-kept : {A : Type 0} (t u : A → Bool) (xs : List A) (x : A) → first t xs ≡ Some x → u x ≡ true → first t (filter u xs) ≡ Some x
 first-kept t u [] x e h = absurd cc
 first-kept t u (z ∷ xs) x e h = by (t z) (u z) refl refl e (λ g. first-kept t u xs x g h)
   where
@@ -41,7 +41,7 @@ first-kept t u (z ∷ xs) x e h = by (t z) (u z) refl refl e (λ g. first-kept t
     by false true i j g more = ap (λ b. cond b (Some z) (first t (filter u xs))) i ∙ more g
     by false false i j g more = more g
 
-first-numbered : {A : Type 0} (t : A → Bool) (k : ℕ) (xs : List A) (x : A) → first t xs ≡ Some x → (y : ℕ × A) × (first (λ (z : ℕ × A). t z.1) (numbered k xs) ≡ Some y) × IsIn y (numbered k xs) × (y.1 ≡ x)
+pub first-numbered : {A : Type 0} (t : A → Bool) (k : ℕ) (xs : List A) (x : A) → first t xs ≡ Some x → (y : ℕ × A) × (first (λ (z : ℕ × A). t z.1) (numbered k xs) ≡ Some y) × IsIn y (numbered k xs) × (y.1 ≡ x)
 first-numbered t k [] x e = absurd cc
 first-numbered t k (z ∷ xs) x e = by (t z) refl e (first-numbered t (k + 1) xs x)
   where
@@ -51,14 +51,14 @@ first-numbered t k (z ∷ xs) x e = by (t z) refl e (first-numbered t (k + 1) xs
     by true i g more = let is : z ≡ x = cc in ((k, z), refl, inl refl, is)
     by false i g more = let found = more g in (found.0, found.1, inr found.2, found.3)
 
-number-from : {A : Type 0} (k : ℕ) (xs : List A) (y : ℕ × A) → IsIn y (numbered k xs) → (k ≤ y.0) × (y.0 < k + length xs)
+pub number-from : {A : Type 0} (k : ℕ) (xs : List A) (y : ℕ × A) → IsIn y (numbered k xs) → (k ≤ y.0) × (y.0 < k + length xs)
 number-from k [] y h = absurd h
 number-from k (z ∷ xs) y (inl is) = let same : y.0 ≡ k = ap (λ q. q.0) is in (omega (arith, same), omega (arith, same))
 number-from k (z ∷ xs) y (inr h) = let more = number-from (k + 1) xs y h in (omega (arith, more.0), omega (arith, more.1))
 
 -- ---- names
 
-abbrev switch_name : ℕ → Name
+abbrev pub switch_name : ℕ → Name
 switch_name k = with_number (codes "lp_s_") k
 
 numbers-differ : (j k : ℕ) → j < k → k ≤ 1000000000 → bytes_eq (switch_name j) (switch_name k) ≡ false
@@ -70,14 +70,14 @@ numbers-differ j k less small = not-equal (switch_name j) (switch_name k) differ
         let number = decimal_injective j k (omega (arith, less, small)) (omega (arith, small)) same in
         omega (arith, number, less)
 
-operator-letter : (j k : ℕ) (os : List Operator) (n : Name) → IsIn n (operator_names j k os) → (letter n ≡ 105) ⊎ (letter n ≡ 108)
+pub operator-letter : (j k : ℕ) (os : List Operator) (n : Name) → IsIn n (operator_names j k os) → (letter n ≡ 105) ⊎ (letter n ≡ 108)
 operator-letter j k [] n h = absurd h
 operator-letter j k (Clamp t i ∷ os) n (inl is) = inl (ap letter is)
 operator-letter j k (Clamp t i ∷ os) n (inr h) = operator-letter (j + 1) (k + 0) os n h
 operator-letter j k (Shift t a b ∷ os) n (inl is) = inr (ap letter is)
 operator-letter j k (Shift t a b ∷ os) n (inr h) = operator-letter (j + 0) (k + 1) os n h
 
-no-operator : (n : Name) (k : ℕ) → (letter n ≡ 105) ⊎ (letter n ≡ 108) → bytes_eq n (switch_name k) ≡ false
+pub no-operator : (n : Name) (k : ℕ) → (letter n ≡ 105) ⊎ (letter n ≡ 108) → bytes_eq n (switch_name k) ≡ false
 no-operator n k h = not-equal n (switch_name k) (differ h)
   where
     differ : (letter n ≡ 105) ⊎ (letter n ≡ 108) → n ≡ switch_name k → ⊥

@@ -10,16 +10,16 @@ use Rattle.lp_spec_realises.specs.Operators.{OperatorAt, SwitchAt, all_operators
 use Rattle.lp_spec_design.specs.Graph.{numbered}
 use Rattle.lp_spec_faults.specs.Lines.{first_of}
 use Rattle.lp_spec_faults.specs.Readings.{no_cell}
-use Rattle.lp_spec_realises.specs.Realises.{same_paths, cell_of, operator_stands, switch_stands, source_cell_stands, has_placed, expected_cells, are_distinct}
+use Rattle.lp_spec_realises.specs.Realises.{has_the_cells, same_paths, cell_of, operator_stands, switch_stands, source_cell_stands, has_placed, expected_cells, are_distinct}
 use Rattle.lp_spec_written.specs.Places.{Standing, Switching, plan, switches_in, cell_numbered, with_number}
 use Rattle.lp_spec_written.specs.Supplies.{cell_for, switch_of}
 use Rattle.lp_spec_design.specs.Instances.{Placed, cell_instances}
 use Rattle.lp_spec_design.specs.Keys.{Name, Path, Way}
 use Rattle.lp_spec_design.specs.Winners.{IsIn}
 use Rattle.lp_spec_written.specs.Nets.{Linked, linked}
-use Rattle.lp_model.specs.NetlistView.{ModuleView}
+use Rattle.lp_model.specs.NetlistView.{InstanceView, ModuleView}
 use Rattle.lp_model.specs.LibraryView.{CellView}
-use Rattle.lp_spec_written.specs.Written.{Additions, additions, named_operators, written}
+use Rattle.lp_spec_written.specs.Written.{Additions, additions, named_operators, written_instances, written}
 use Rattle.lp_spec_hub.specs.Spots.{on_way}
 use Rattle.lp_spec_hub.specs.Entries.{HasWaysApart, HasItsCells}
 use Rattle.lp_spec_wired.specs.Contents.{IsWrittenAt}
@@ -200,3 +200,64 @@ HasNoOtherCells =
 -- no cell instance of the source stands twice
 abbrev pub SourceCellsDiffer : Type 0
 SourceCellsDiffer = (p : Project) → IsFree p → are_distinct (cell_instances p.structure) ≡ true
+
+-- no two operators stand at one cell instance
+abbrev pub OperatorsDiffer : Type 0
+OperatorsDiffer =
+    (p : Project) (l : Lists)
+    → IsFree p
+    → HasWaysApart p
+    → HasItsCells p l
+    → ((x : Path) → length (linked p (additions p l).chains x) ≤ 1000000000)
+    → are_distinct (map (placed_operator (placement_of p l)) (all_operators p)) ≡ true
+
+-- no two switches stand at one cell instance
+abbrev pub SwitchesDiffer : Type 0
+SwitchesDiffer =
+    (p : Project) (l : Lists)
+    → HasSwitchCells p l
+    → ((x : Path) → length (switches_in (plan p l) x) ≤ 1000000000)
+    → are_distinct (map (placed_switch (placement_of p l)) (all_switches p)) ≡ true
+
+-- so no two cell instances of the source, of operators and of switches are one
+abbrev pub ExpectedCellsDiffer : Type 0
+ExpectedCellsDiffer =
+    (p : Project) (l : Lists)
+    → IsFree p
+    → HasWaysApart p
+    → HasItsCells p l
+    → HasSwitchCells p l
+    → ((x : Path) → length (linked p (additions p l).chains x) ≤ 1000000000)
+    → ((x : Path) → length (switches_in (plan p l) x) ≤ 1000000000)
+    → are_distinct (expected_cells p (placement_of p l)) ≡ true
+
+-- so a netlist of that content has the cells that the project asks for, each once, and no others
+abbrev pub HasAllItsCells : Type 0
+HasAllItsCells =
+    (p : Project) (l : Lists)
+    → IsFree p
+    → HasWaysApart p
+    → HasItsCells p l
+    → HasSwitchCells p l
+    → ((x : Path) → length (linked p (additions p l).chains x) ≤ 1000000000)
+    → ((x : Path) → length (switches_in (plan p l) x) ≤ 1000000000)
+    → (w : Structure)
+    → are_apart (map (λ (k : CellView). k.name) p.structure.cells) ≡ true
+    → HasRegisterCells p l
+    → IsWrittenAt p (additions p l) w
+    → has_the_cells p w (placement_of p l) ≡ true
+
+-- no two modules that are written have one name
+abbrev pub ModuleNamesDiffer : Type 0
+ModuleNamesDiffer = (p : Project) (l : Lists) → IsFree p → are_apart (map (λ (m : ModuleView). m.name) (written p l)) ≡ true
+
+-- no two instances in a module that is written have one name
+abbrev pub InstanceNamesDiffer : Type 0
+InstanceNamesDiffer =
+    (p : Project) (l : Lists)
+    → IsFree p
+    → (x : Path) (m : ModuleView)
+    → module_at p.structure x ≡ Some m
+    → length (linked p (additions p l).chains x) ≤ 1000000000
+    → length (switches_in (plan p l) x) ≤ 1000000000
+    → are_apart (map (λ (y : InstanceView). y.name) (written_instances p (additions p l) x m)) ≡ true

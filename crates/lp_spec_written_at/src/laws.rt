@@ -1,5 +1,5 @@
 //! Laws about the modules of the written netlist by their paths: each is the clause of a function that does nothing.
-ghost use Rattle.lp_spec_written_at.specs.Laws.{HasItsInstances, HasItsOrigins, HasItsPorts, HasNoOtherCells, HasOperatorCells, HasSourceCells, IsAsChosen, IsShallow, KnowsTargets, NoneLacks, OperatorsComeFromPlan, OperatorsStand, PlacesOperators, PlacesSwitches, SourceCellsDiffer, SourceCellsStand, SwitchesComeFromPlan, SwitchesStand, WrittenAreReached, WrittenAtItsPaths};
+ghost use Rattle.lp_spec_written_at.specs.Laws.{ExpectedCellsDiffer, HasAllItsCells, HasItsInstances, HasItsOrigins, HasItsPorts, HasNoOtherCells, HasOperatorCells, HasSourceCells, InstanceNamesDiffer, IsAsChosen, IsShallow, KnowsTargets, ModuleNamesDiffer, NoneLacks, OperatorsComeFromPlan, OperatorsDiffer, OperatorsStand, PlacesOperators, PlacesSwitches, SourceCellsDiffer, SourceCellsStand, SwitchesComeFromPlan, SwitchesDiffer, SwitchesStand, WrittenAreReached, WrittenAtItsPaths};
 
 /// The written netlist has at each path of the source the written module of that path, and no other paths.
 pub fn written_is_written_at()
@@ -99,4 +99,34 @@ pub fn content_has_no_other_cells()
 /// No cell instance of the source stands twice.
 pub fn source_cells_differ()
     ensures { SourceCellsDiffer }
+{}
+
+/// No two operators stand at one cell instance.
+pub fn operators_differ()
+    ensures { OperatorsDiffer }
+{}
+
+/// No two switches stand at one cell instance.
+pub fn switches_differ()
+    ensures { SwitchesDiffer }
+{}
+
+/// No two cell instances of the source, of operators and of switches are one.
+pub fn expected_cells_differ()
+    ensures { ExpectedCellsDiffer }
+{}
+
+/// The cells that the project asks for are there, each once, and no others.
+pub fn content_has_all_its_cells()
+    ensures { HasAllItsCells }
+{}
+
+/// No two modules that are written have one name.
+pub fn written_module_names_differ()
+    ensures { ModuleNamesDiffer }
+{}
+
+/// No two instances in a module that is written have one name.
+pub fn written_instance_names_differ()
+    ensures { InstanceNamesDiffer }
 {}
