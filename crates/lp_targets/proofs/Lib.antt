@@ -8,3 +8,5 @@ mod Looping
 mod Search
 mod FirstLooped
 mod Refused
+mod Together
+mod Capped

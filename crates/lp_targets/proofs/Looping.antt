@@ -36,7 +36,7 @@ is_in a (k ∷ ks) = by (a == k) refl (is_in a ks)
     by false e (inl h) = inl (inr h)
     by false e (inr never) = inr (λ h. elim h [ inl is ↦ true≢false (sym (eq-eqb a k is) ∙ e) | inr there ↦ never there ])
 
-in_upward : (n from z : ℕ) → from ≤ z → z < from + n → IsIn z (upward n from)
+pub in_upward : (n from z : ℕ) → from ≤ z → z < from + n → IsIn z (upward n from)
 in_upward zero from z low high = absurd (omega (arith, low, high))
 in_upward (suc n) from z low high = by (z == from) refl (in_upward n (from + 1) z)
   where
@@ -46,7 +46,7 @@ in_upward (suc n) from z low high = by (z == from) refl (in_upward n (from + 1) 
         let other : z ≢ from = λ is. true≢false (sym (eq-eqb z from is) ∙ e) in
         inr (more (omega (arith, low, other)) (omega (arith, high)))
 
-count_upward : (n from : ℕ) → length (upward n from) ≡ n
+pub count_upward : (n from : ℕ) → length (upward n from) ≡ n
 count_upward zero from = refl
 count_upward (suc n) from = ap suc (count_upward n (from + 1))
 

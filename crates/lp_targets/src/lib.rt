@@ -3,6 +3,7 @@
 
 mod index;
 mod laws;
+mod limits;
 mod looped;
 mod order;
 mod reserved;
@@ -13,9 +14,11 @@ mod tops;
 mod unknown;
 
 pub use laws::{
-    first_by_place, loop_means_recursion, no_loop_means_no_recursion, order_means_no_recursion,
-    recursion_by_place,
+    capped_by_place, capped_tells_over, depth_of_modules_is_enough, first_by_place,
+    loop_means_recursion, no_loop_means_no_recursion, order_means_no_recursion, recursion_by_place,
+    together_by_module,
 };
+pub use limits::capped_row;
 pub use looped::{first_recursive, ordered_modules};
 pub use order::modules_in_order;
 pub use resolve::targets_of;
