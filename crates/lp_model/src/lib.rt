@@ -2,6 +2,7 @@
 //! what they are as texts.
 #![tactic(auto)]
 
+mod bit_walk;
 mod bits;
 mod chain;
 mod counts;
@@ -18,14 +19,17 @@ mod need;
 mod netlist;
 mod plan;
 mod reason;
+mod run;
 mod side;
 mod slot;
 mod supply;
 mod upf;
 mod view;
 
+pub use bit_walk::BitWalk;
 pub use bits::Bit;
 pub use bits::Bits;
+pub use bits::Shown;
 pub use chain::Chain;
 pub use chain::Operator;
 pub use chain::Passage;
@@ -158,6 +162,7 @@ pub use plan::Merge;
 pub use plan::Pair;
 pub use plan::Plan;
 pub use reason::Reason;
+pub use run::Run;
 pub use side::Location;
 pub use side::Side;
 pub use slot::SetSlot;

@@ -3,7 +3,7 @@ ghost use Rattle.lp_plain_fits.specs.Numbered.{is_output_of, net_of, inputs, dri
 
 use crate::distinct::are_distinct;
 use crate::joined::named;
-use lp_model::{Bit, Connection, Direction, Instance, Module, Pin, Port};
+use lp_model::{Bit, Bits, Connection, Direction, Instance, Module, Pin, Port};
 use lp_plain_index::CellIndex;
 use lp_text::{NameId, Names, NoMemory};
 use std::alloc::Global;
@@ -27,10 +27,10 @@ fn add_inputs(nets: &mut Vec<u32>, ports: &[Port]) -> Result<(), NoMemory>
 }
 
 /// Adds the net of a connection.
-fn add_net(nets: &mut Vec<u32>, bits: &[Bit]) -> Result<(), NoMemory>
+fn add_net(nets: &mut Vec<u32>, bits: &Bits) -> Result<(), NoMemory>
     ensures { OnOk result (nets.new.items ≡ nets.old.items ++ net_of bits.now) }
 {
-    if let [Bit::Net(net)] = bits {
+    if let Some(Bit::Net(net)) = bits.single() {
         nets.push(net.0)?;
     }
     Ok(())
@@ -41,7 +41,7 @@ fn add_output(nets: &mut Vec<u32>, connection: &Connection, pins: &[Pin]) -> Res
     ensures { OnOk result (nets.new.items ≡ nets.old.items ++ driven_at pins.now connection.now) }
 {
     if is_output_of(pins, connection.port) {
-        add_net(nets, connection.bits.as_slice())?;
+        add_net(nets, &connection.bits)?;
     }
     Ok(())
 }

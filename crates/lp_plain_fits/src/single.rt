@@ -5,7 +5,9 @@ ghost use Rattle.lp_spec_plain_netlist.specs.Single.{is_single};
 ghost use Rattle.lp_plain_fits.specs.Scalars.{is_one_net, are_one_nets, is_free, has_no_assign, has_free_names, has_scalars, is_single_module};
 
 use lp_attributes::text_of;
-use lp_model::{Assign, Bit, Connection, Connections, Instance, Module, NetDecl, Netlist, Port};
+use lp_model::{
+    Assign, Bit, Bits, Connection, Connections, Instance, Module, NetDecl, Netlist, Port,
+};
 use lp_text::{NameId, Names};
 
 fn have_scalar_ports(ports: &[Port]) -> bool
@@ -20,11 +22,11 @@ fn have_scalar_nets(nets: &[NetDecl]) -> bool
     nets.iter().all(|net| net.range.is_none())
 }
 
-fn is_one_net(bits: &[Bit]) -> bool
+fn is_one_net(bits: &Bits) -> bool
     ensures { result ≡ is_one_net bits.now }
 {
-    match bits {
-        [Bit::Net(_)] => true,
+    match bits.single() {
+        Some(Bit::Net(_)) => true,
         _ => false,
     }
 }
@@ -34,7 +36,7 @@ fn have_one_nets(connections: &[Connection]) -> bool
 {
     connections
         .iter()
-        .all(|connection| is_one_net(connection.bits.as_slice()))
+        .all(|connection| is_one_net(&connection.bits))
 }
 
 fn are_one_nets(connections: &Connections) -> bool

@@ -3,7 +3,7 @@ ghost use Rattle.std.specs.Option.{option_copied};
 ghost use Rattle.lp_behaviour.specs.Signals.{is_input};
 ghost use Rattle.lp_plain_loops.specs.Numbered.{input_at, named, net_in, net_at, pin_at};
 
-use lp_model::{Bit, Connection, Connections, Direction, Pin};
+use lp_model::{Bit, Bits, Connection, Connections, Direction, Pin};
 use lp_text::NameId;
 
 /// The connections by name.
@@ -16,11 +16,12 @@ pub(crate) fn named(connections: &Connections) -> &[Connection]
     }
 }
 
-fn net_in(bits: &[Bit]) -> Option<NameId>
+fn net_in(bits: &Bits) -> Option<NameId>
     ensures { result ≡ net_in bits.now }
 {
-    match bits {
-        [Bit::Net(name), ..] => Some(*name),
+    let mut walk = bits.walk();
+    match walk.next() {
+        Some(Bit::Net(name)) => Some(name),
         _ => None,
     }
 }
@@ -31,7 +32,7 @@ pub(crate) fn net_at(connections: &[Connection], pin: NameId) -> Option<NameId>
 {
     for connection in connections {
         if connection.port.0 == pin.0 {
-            return net_in(connection.bits.as_slice());
+            return net_in(&connection.bits);
         }
     }
     None

@@ -1,6 +1,6 @@
 //! What entries of large tables take.
 use lp_model::{
-    Bits, Connection, Edge, Inst, Instance, Leaf, Node, Operator, PinNet, RowState, SetSlot,
+    Bits, Connection, Edge, Inst, Instance, Leaf, Node, Operator, PinNet, RowState, Run, SetSlot,
     SideWinners, UpfWord,
 };
 use std::mem::size_of;
@@ -14,6 +14,7 @@ fn entries_of_large_tables_are_small(rt: HostRuntime) {
         ("Leaf", size_of::<Leaf>(), 16),
         ("Inst", size_of::<Inst>(), 20),
         ("Bits", size_of::<Bits>(), 16),
+        ("Run", size_of::<Run>(), 16),
         ("Connection", size_of::<Connection>(), 24),
         ("Instance", size_of::<Instance>(), 40),
         ("SetSlot", size_of::<SetSlot>(), 4),

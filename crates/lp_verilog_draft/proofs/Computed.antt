@@ -1,11 +1,9 @@
 -- Uses of a port that the header of a module lists, before its direction stands, computed.
-use Rattle.std.proofs.Common.{◌≡◌, true, false, List, [], ◌∷◌, Some, None, refl}
-use Rattle.lp_text.specs.declared.names.NameId.{NameId}
+use Rattle.std.proofs.Common.{◌≡◌, true, false, [], ◌∷◌, Some, None, refl}
 use Rattle.lp_model.specs.declared.netlist.Direction.TheVariants.{Input}
 use Rattle.lp_model.specs.declared.netlist.BitRange.{BitRange}
 use Rattle.lp_verilog_draft.specs.declared.declaring.Declaring.{Declaring}
 use Rattle.lp_verilog_draft.specs.declared.declaring.Form.TheVariants.{Ports, Wires}
-use Rattle.lp_verilog_draft.specs.declared.scope.Entry.{Entry}
 use Rattle.lp_verilog_draft.specs.declared.scope.Kind.TheVariants as kinds
 use Rattle.lp_verilog_draft.specs.declared.stop.Off.TheVariants.{Syntax, Duplicate}
 use Rattle.lp_verilog_draft.specs.declared.value.Side.TheVariants.{Left, Right, Connection}

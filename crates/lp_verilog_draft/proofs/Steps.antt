@@ -1,5 +1,5 @@
--- One step of a loop over entries, indices or symbols.
-use Rattle.std.proofs.Common.{◌≡◌, ℕ, suc, ◌+◌, ◌-◌, ◌<◌, Bool, List, [], ◌∷◌, ◌++◌, drop, map, Option, Some, None, sym, ap, ◌∙◌, arith, append_assoc}
+-- One step of a loop over entries or symbols.
+use Rattle.std.proofs.Common.{◌≡◌, ℕ, suc, ◌+◌, List, [], ◌∷◌, ◌++◌, drop, Option, Some, None, sym, ap, ◌∙◌, arith, append_assoc}
 use Rattle.std.specs.Prelude.{slice_get, if◌then◌else◌}
 use Rattle.std.proofs.Math.Seq.{drop-cons}
 use Rattle.std.proofs.lemmas.Option.{slice_get_within, get_or_from_slice_get}
@@ -8,7 +8,6 @@ use Rattle.lp_model.specs.declared.netlist.Port.{Port}
 use Rattle.lp_model.specs.declared.netlist.NetDecl.{NetDecl}
 use Rattle.lp_verilog_draft.specs.declared.scope.Entry.{Entry}
 use Rattle.lp_verilog_draft.specs.Scopes.{lacking_of, ports_of, nets_of, port_of, net_of, with_some, lacks_direction}
-use Rattle.lp_verilog_draft.specs.Values.{indices}
 
 drop_at : {A : Type 0} (xs : List A) (i : ℕ) (x : A) → slice_get xs i ≡ Some x → drop i xs ≡ x ∷ drop (i + 1) xs
 drop_at xs i x e =
@@ -28,18 +27,6 @@ ports_step ports es i e h = before (port_of e.0 e.1) ports (ports_of (drop (i + 
 
 nets_step : (nets : List NetDecl) (es : List (ℕ × Entry)) (i : ℕ) (e : ℕ × Entry) → slice_get es i ≡ Some e → (nets ++ with_some (net_of e.0 e.1) []) ++ nets_of (drop (i + 1) es) ≡ nets ++ nets_of (drop i es)
 nets_step nets es i e h = before (net_of e.0 e.1) nets (nets_of (drop (i + 1) es)) ∙ ap (λ xs. nets ++ nets_of xs) (sym (drop_at es i e h))
-
-indices_step : (up : Bool) (first k count : ℕ) → k < count → indices up first k (count - k) ≡ (if up then first + k else first - k) ∷ indices up first (k + 1) (count - (k + 1))
-indices_step up first k count l = let e : count - k ≡ suc (count - (k + 1)) = omega arith in ap (indices up first k) e
-
-bits_step : {B : Type 0} (f : ℕ → B) (xs : List B) (up : Bool) (first k count : ℕ) → k < count → (xs ++ f (if up then first + k else first - k) ∷ []) ++ map f (indices up first (k + 1) (count - (k + 1))) ≡ xs ++ map f (indices up first k (count - k))
-bits_step f xs up first k count l = append_assoc xs (f (if up then first + k else first - k) ∷ []) (map f (indices up first (k + 1) (count - (k + 1)))) ∙ ap (λ ys. xs ++ map f ys) (sym (indices_step up first k count l))
-
--- one more bit
-pub bits_kept : {B : Type 0} (f : ℕ → B) (old new all : List B) (up : Bool) (first k count i : ℕ) → k < count → i ≡ (if up then first + k else first - k) → new ≡ old ++ f i ∷ [] → old ++ map f (indices up first k (count - k)) ≡ all → new ++ map f (indices up first (k + 1) (count - (k + 1))) ≡ all
-bits_kept f old new all up first k count i l at is before_ =
-    let step = bits_step f old up first k count l in
-    rw (is, at) (step ∙ before_)
 
 pub ports_kept : (es : List (ℕ × Entry)) (i : ℕ) (e : ℕ × Entry) (old new all : List Port) (o : Option Port) → slice_get es i ≡ Some e → o ≡ port_of e.0 e.1 → new ≡ old ++ with_some o [] → old ++ ports_of (drop i es) ≡ all → new ++ ports_of (drop (i + 1) es) ≡ all
 ports_kept es i e old new all o at made is kept =

@@ -1,44 +1,41 @@
-ghost use Rattle.std.specs.Prelude.{◌≡◌, [], ◌∷◌, ◌++◌, ◌≤◌, ◌+◌, ◌-◌, ◌<◌, if◌then◌else◌, map, IsTrue, OnOk, IfOk, ◌^◌};
-ghost use Rattle.lp_model.specs.declared.bits.Bit.TheVariants as bits;
-ghost use Rattle.lp_verilog_draft.specs.Values.{digit, indices, select, whole, constant_bits};
+ghost use Rattle.std.specs.Prelude.{◌≡◌, [], ◌∷◌, ◌++◌, ◌/◌, ◌%◌, ◌^◌, OnOk, IfOk};
+ghost use Rattle.lp_model.specs.Bits.{run_bits};
+ghost use Rattle.lp_verilog_draft.specs.Values.{select, whole, constant_bits};
 
-use lp_model::{Bit, BitRange, Bits};
+use lp_model::{Bit, BitRange, Bits, Run};
 use lp_text::{NameId, NoMemory};
 use std::alloc::Global;
 use std::marker::Model;
 use std::mem;
 
-/// The bits of a value that is read: contracts see their list.
+/// How many digits of a constant stand in one run.
+const WORD: u8 = 32;
+
+/// The bits of a value that is read, in runs: contracts see their list.
 #[derive(Drop)]
 pub struct BitList {
-    bits: Vec<Bit>,
+    runs: Vec<Run>,
 }
 
 impl Model for BitList {
     ghost use Rattle.std.specs.Prelude.{List};
+    ghost use Rattle.std.specs.List.{flat_map};
     ghost use Rattle.lp_model.specs.declared.bits.Bit.{Bit};
+    ghost use Rattle.lp_model.specs.Bits.{run_bits};
 
     ghost Value = { List Bit };
 
-    ghost view = { λ b. b.bits.items };
+    ghost view = { λ b. flat_map run_bits b.runs.items };
 }
 
-/// Whether a binary digit of a number is 1.
-fn digit(value: u128, place: u8) -> bool
-    ensures { result ≡ digit value place }
+/// The 32 binary digits of a number from a place on.
+fn word(value: u128, place: u8) -> u32
+    ensures { result ≡ value / 2 ^ place % 2 ^ 32 }
 {
-    place < 128 && (value >> u32::from(place)) % 2 == 1
-}
-
-/// The index that comes so many steps behind the first one, up or down.
-fn index_at(up: bool, first: u32, steps: u32) -> u32
-    requires { IsTrue up → first + steps < 2 ^ 32 }
-    ensures { result ≡ (if up then first + steps else first - steps) }
-{
-    if up {
-        first + steps
+    if place < 128 {
+        ((value >> u32::from(place)) % 4294967296) as u32
     } else {
-        first.saturating_sub(steps)
+        0
     }
 }
 
@@ -48,16 +45,23 @@ impl BitList {
         ensures { result ≡ [] }
     {
         BitList {
-            bits: Vec::new(alloc),
+            runs: Vec::new(alloc),
         }
+    }
+
+    /// Puts a run behind the others, or there is no memory.
+    fn push_run(&mut self, run: Run) -> Result<(), NoMemory>
+        ensures { OnOk result (self.new ≡ self.old ++ run_bits run) }
+    {
+        self.runs.push(run)?;
+        Ok(())
     }
 
     /// Puts a bit behind the others, or there is no memory.
     pub fn push(&mut self, bit: Bit) -> Result<(), NoMemory>
         ensures { OnOk result (self.new ≡ self.old ++ bit ∷ []) }
     {
-        self.bits.push(bit)?;
-        Ok(())
+        self.push_run(Run::One(bit))
     }
 
     /// Takes all bits out.
@@ -65,37 +69,15 @@ impl BitList {
         ensures taken { IfOk result (λ bits. bits ≡ self.old) }
         ensures empty { self.new ≡ [] }
     {
-        let bits = mem::replace(&mut self.bits, Vec::new(alloc));
-        Bits::from_vec(alloc, bits)
-    }
-
-    /// Bits of a vector at some indices, up or down from the first one.
-    fn push_indices(
-        &mut self,
-        name: NameId,
-        up: bool,
-        first: u32,
-        count: u64,
-    ) -> Result<(), NoMemory>
-        requires up { IsTrue up → first + count < 2 ^ 32 + 1 }
-        requires down { count < 2 ^ 32 + 1 }
-        ensures { OnOk result (self.new ≡ self.old ++ map (λ k. bits.Select name k) (indices up first 0 count)) }
-    {
-        for k in 0..count {
-            self.push(Bit::Select(name, index_at(up, first, k as u32)))?;
-        }
-        Ok(())
+        let runs = mem::replace(&mut self.runs, Vec::new(alloc));
+        Bits::from_runs(alloc, runs)
     }
 
     /// The bits of a vector from one index to another.
     pub fn push_select(&mut self, name: NameId, i: u32, j: u32) -> Result<(), NoMemory>
         ensures { OnOk result (self.new ≡ self.old ++ select name i j) }
     {
-        if i <= j {
-            self.push_indices(name, true, i, u64::from(j - i) + 1)
-        } else {
-            self.push_indices(name, false, i, u64::from(i - j) + 1)
-        }
+        self.push_run(Run::Part(name, i, j))
     }
 
     /// All bits of a net.
@@ -112,8 +94,11 @@ impl BitList {
     pub fn push_constant(&mut self, size: u8, value: u128) -> Result<(), NoMemory>
         ensures { OnOk result (self.new ≡ self.old ++ constant_bits size value) }
     {
-        for k in 0..size {
-            self.push(Bit::Const(digit(value, size - 1 - k)))?;
+        let mut left = size;
+        while left > 0 {
+            let count = (left - 1) % WORD + 1;
+            left -= count;
+            self.push_run(Run::Digits(word(value, left), u32::from(count)))?;
         }
         Ok(())
     }

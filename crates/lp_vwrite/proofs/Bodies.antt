@@ -22,7 +22,7 @@ use Rattle.lp_verilog_grammar.specs.declared.symbol.Symbol.TheVariants as symbol
 use Rattle.lp_verilog_grammar.specs.Machine.{finish_module}
 use Rattle.lp_verilog.specs.Reading.{Outcome}
 use Rattle.lp_vwrite.specs.Layout.{declared, range_of, port_line, net_line, instance_line, assign_line}
-use Rattle.lp_vwrite.specs.WellFormed.{is_name, is_range, is_net, is_bit, is_connection, are_connections, is_instance, is_assign, is_filled, is_constant, port_names_of, instance_texts, module_texts}
+use Rattle.lp_vwrite.specs.WellFormed.{is_name, is_range, is_net, is_bit, is_connection, are_connections, is_instance, is_assign, is_filled, is_constant, port_names_of, instance_texts}
 use Rattle.lp_vwrite.proofs.Onward.{Then, Onward}
 use Rattle.lp_vwrite.proofs.Parts.{id, line_onward, endmodule_onward}
 use Rattle.lp_vwrite.proofs.Scope.{Declared, port_entry, listed_entry, wire_entry, instance_entry, names_in, plain, keyed, all_known, is_net_entry, absent_before, ports-plain, nets-plain, lacking-plain}

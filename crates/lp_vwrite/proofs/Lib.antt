@@ -1,5 +1,6 @@
 pub mod Ranges
 pub mod Runs
+pub mod Whole
 pub mod Tokens
 pub mod Onward
 pub mod Parts

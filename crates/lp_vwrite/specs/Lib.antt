@@ -3,3 +3,4 @@ pub mod WellFormed
 pub mod Examples
 pub mod Sound
 pub mod Views
+pub mod Whole

@@ -63,7 +63,7 @@ fn put_connection(
     out.extend_from_slice(b".")?;
     put_name(out, names, connection.port)?;
     out.extend_from_slice(b"(")?;
-    put_value(out, names, vectors, connection.bits.as_slice())?;
+    put_value(out, names, vectors, &connection.bits)?;
     out.extend_from_slice(b")")?;
     Ok(())
 }
@@ -112,7 +112,7 @@ fn put_more_values(
 {
     for value in values {
         out.extend_from_slice(b", ")?;
-        put_value(out, names, vectors, value.as_slice())?;
+        put_value(out, names, vectors, value)?;
     }
     Ok(())
 }
@@ -129,7 +129,7 @@ fn put_ordered(
     match values {
         [] => Ok(()),
         [first, others @ ..] => {
-            put_value(out, names, vectors, first.as_slice())?;
+            put_value(out, names, vectors, first)?;
             put_more_values(out, names, vectors, others)?;
             Ok(())
         }
@@ -179,9 +179,9 @@ pub(crate) fn put_assign(
     ensures { OnOk result (out.new.items ≡ out.old.items ++ assign_line (range_in vectors.now) (assign_view names.now assign.now)) }
 {
     out.extend_from_slice(b"  assign ")?;
-    put_value(out, names, vectors, assign.left.as_slice())?;
+    put_value(out, names, vectors, &assign.left)?;
     out.extend_from_slice(b" = ")?;
-    put_value(out, names, vectors, assign.right.as_slice())?;
+    put_value(out, names, vectors, &assign.right)?;
     out.extend_from_slice(b";\n")?;
     Ok(())
 }

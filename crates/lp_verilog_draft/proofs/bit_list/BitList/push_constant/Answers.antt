@@ -1,9 +1,10 @@
-use Rattle.std.proofs.Common.{◌-◌, ◌++◌, [], ◌∷◌, false, refl, ap, ◌∙◌, arith}
-use Rattle.lp_model.specs.declared.bits.Bit.TheVariants as bits
-use Rattle.lp_verilog_draft.specs.Values.{digit}
-use Rattle.lp_verilog_draft.proofs.Steps.{bits_kept}
+use Rattle.std.proofs.Common.{◌++◌, ◌+◌, ◌-◌, ◌%◌, ◌<◌, ◌^◌, arith}
+use Rattle.lp_verilog_draft.specs.Values.{constant_bits}
+use Rattle.lp_verilog_draft.proofs.Digits.{word-kept}
 use Rattle.lp_verilog_draft.proofs.bit_list.BitList.push_constant.Goals as goal
 
-pub loop-k-preserved : goal.loop-k-preserved
-loop-k-preserved c =
-    bits_kept (λ place. bits.Const (digit c.args.value place)) c.loop-k.self c.push.new.self _ false (c.args.size - 1) c.loop-k.k c.args.size (c.args.size - 1 - c.loop-k.k) (omega arith) refl (c.in_ok-push.ensures ∙ ap (λ b. c.loop-k.self ++ bits.Const b ∷ []) c.digit.ensures) c.loop-k.invariant
+pub loop-left-preserved : goal.loop-left-preserved
+loop-left-preserved c =
+    let small : c.args.value < 2 ^ 128 = omega arith in
+    let left = c.loop-left.left in
+    word-kept c.loop-left.self c.push_run.new.self (c.args.self.now ++ constant_bits c.args.size c.args.value) c.args.value left (left - ((left - 1) % 32 + 1)) c.from.result c.word.result small (omega arith) (omega arith) c.word.ensures c.in_ok-push_run.ensures c.loop-left.invariant

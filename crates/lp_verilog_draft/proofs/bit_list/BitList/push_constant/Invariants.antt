@@ -1,8 +1,9 @@
-use Rattle.std.proofs.Common.{◌≡◌, ◌++◌, ◌-◌, map}
-use Rattle.lp_model.specs.declared.bits.Bit.TheVariants as bits
-use Rattle.lp_verilog_draft.specs.Values.{digit, indices}
-use Rattle.std.specs.Prelude.{false}
+use Rattle.std.proofs.Common.{◌≡◌, ◌++◌}
+use Rattle.lp_verilog_draft.specs.Values.{constant_bits}
 use Rattle.lp_verilog_draft.proofs.bit_list.BitList.push_constant.Given as goal
 
-abbrev pub invariant-loop-k : goal.invariant-loop-k
-invariant-loop-k l = l.self ++ map (λ place. bits.Const (digit l.value place)) (indices false (l.size - 1) l.k (l.size - l.k)) ≡ l.fn.self ++ map (λ place. bits.Const (digit l.value place)) (indices false (l.size - 1) 0 l.size)
+abbrev pub invariant-loop-left : goal.invariant-loop-left
+invariant-loop-left l = l.self ++ constant_bits l.left l.value ≡ l.fn.self ++ constant_bits l.fn.size l.value
+
+abbrev pub decreases-loop-left : goal.decreases-loop-left
+decreases-loop-left l = l.left
