@@ -6,8 +6,8 @@ ghost use Rattle.lp_model.specs.LibraryView.{cell_view};
 ghost use Rattle.lp_spec_plain_netlist.specs.Fits.{cell_named};
 ghost use Rattle.lp_plain_index.specs.Cells.{cell_numbered};
 
-use crate::places::Places;
 use lp_model::Cell;
+use lp_places::Places;
 use lp_text::{NameId, Names, NoMemory};
 use sqlite_items::at;
 use std::alloc::Global;

@@ -1,10 +1,10 @@
 ghost use Rattle.std.specs.Prelude.{◌≡◌, ◌+◌, ◌<◌, ◌++◌, true, length, map, IfOk, OnOk};
 ghost use Rattle.lp_text.specs.Texts.{place_of, text_at};
 ghost use Rattle.lp_model.specs.Agreement.{numbers_below};
-ghost use Rattle.lp_plain_index.specs.Places.{has_number, place_of_number};
+ghost use Rattle.lp_places.specs.Places.{has_number, place_of_number};
 
-use crate::places::Places;
 use lp_model::{Module, NetDecl, Port};
+use lp_places::Places;
 use lp_text::{NameId, Names, NoMemory};
 use std::alloc::Global;
 use std::marker::Model;

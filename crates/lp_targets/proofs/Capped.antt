@@ -23,7 +23,7 @@ use Rattle.lp_targets.proofs.Search.{read_below, closed_children}
 use Rattle.lp_targets.proofs.Together.{by_module}
 
 -- one part up to the limit
-min_part : (limit a x rest : ℕ) → min limit (a + x + rest) ≡ min limit (a + min limit x + rest)
+pub min_part : (limit a x rest : ℕ) → min limit (a + x + rest) ≡ min limit (a + min limit x + rest)
 min_part limit a x rest =
     elim (cases_lt limit x) [
       | inl over ↦
@@ -53,7 +53,7 @@ min_sum limit a f (x ∷ xs) =
     let joined : a + min limit (f x) + sum_by (λ y. min limit (f y)) xs ≡ a + sum_by (λ y. min limit (f y)) (x ∷ xs) = omega (arith, sum_by-cons (λ y. min limit (f y)) x xs) in
     ap (min limit) split ∙ min_sum limit (a + f x) f xs ∙ min_part limit a (f x) (sum_by (λ y. min limit (f y)) xs) ∙ ap (min limit) joined
 
-children-push : (xs : List Target) (y : Target) → children_of (xs ++ y ∷ []) ≡ children_of xs ++ children_of (y ∷ [])
+pub children-push : (xs : List Target) (y : Target) → children_of (xs ++ y ∷ []) ≡ children_of xs ++ children_of (y ∷ [])
 children-push [] y = refl
 children-push (OfModule j ∷ xs) y = ap (λ ks. j ∷ ks) (children-push xs y)
 children-push (OfCell j ∷ xs) y = children-push xs y
@@ -81,7 +81,7 @@ module _ (s : Structure) (f : ModuleView → ℕ) (t : ℕ → ℕ) where
       let sum : sum_by f (here.0 ∷ some_of (module_of s) row) ≡ sum_by t (j ∷ children_of row) = omega (arith, sum_by-cons f here.0 (some_of (module_of s) row), sum_by-cons t j (children_of row), rest, own) in
       ap (λ o. sum_by f (and_more o (some_of (module_of s) row))) here.1 ∙ sum
 
-read_in : (s : Structure) (rows : List (List Target)) → AreTargets s rows → ReadsBelow (length rows) (children rows) → (a b : ℕ) → Reads (children rows) a b → b < length s.modules
+pub read_in : (s : Structure) (rows : List (List Target)) → AreTargets s rows → ReadsBelow (length rows) (children rows) → (a b : ℕ) → Reads (children rows) a b → b < length s.modules
 read_in s rows targets below a b r =
     let found = at_from_Contains (row_of (children rows) a) b r in
     let inside = read_below (children rows) a found.0 (row_of (children rows) a) (closed_children rows (children rows) refl below) (Reads-within (children rows) a b r) refl found.1 in

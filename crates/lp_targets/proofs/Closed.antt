@@ -1,17 +1,18 @@
--- The places of children are places of modules.
+-- The places of children are places of modules, and those of cells are places of cells.
 use Rattle.std.proofs.Common.{◌≡◌, ℕ, suc, ◌<◌, List, [], ◌∷◌, length, Option, Some, None, refl, sym, ap, ◌∙◌, subst}
 use Rattle.std.specs.Prelude.{map}
 use Rattle.std.specs.List.{All}
 use Rattle.std.proofs.lemmas.List.Elements.{All-nil, All-cons}
+use Rattle.lp_model.specs.declared.library.Cell.{Cell}
 use Rattle.lp_model.specs.declared.netlist.Instance.{Instance}
 use Rattle.lp_model.specs.declared.netlist.Module.{Module}
 use Rattle.lp_order.specs.Order.{ReadsBelow}
 use Rattle.lp_spec_design.specs.Graph.{and_more, some_of}
-use Rattle.lp_plain_index.specs.Places.{place_of_number}
-use Rattle.lp_plain_index.proofs.Numbers.{place-below}
+use Rattle.lp_places.specs.Places.{place_of_number}
+use Rattle.lp_places.proofs.Numbers.{place-below}
 use Rattle.lp_targets.specs.declared.target.Target.{Target}
-use Rattle.lp_targets.specs.Numbered.{module_numbers, target_by, target_of, row_in}
-use Rattle.lp_targets.specs.Children.{children_of, children}
+use Rattle.lp_targets.specs.Numbered.{module_numbers, cell_numbers, target_by, target_of, row_in}
+use Rattle.lp_targets.specs.Children.{children_of, children, cells_of, cell_rows}
 
 pub count_map : {A B : Type 0} (f : A → B) (xs : List A) → length (map f xs) ≡ length xs
 count_map f [] = refl
@@ -35,3 +36,25 @@ pub closed : (im ic : List ℕ) (ms : List Module) → im ≡ module_numbers ms 
 closed im ic ms is_im rows is_rows =
     let count : length im ≡ length rows = ap length is_im ∙ count_map (λ (m : Module). m.name.0) ms ∙ sym (count_map (row_in im ic) ms) ∙ sym (ap length is_rows) in
     subst (λ k. ReadsBelow k (children rows)) count (subst (λ (rs : List (List Target)). ReadsBelow (length im) (children rs)) (sym is_rows) (rows_below im ic ms))
+
+pub counted : (im ic : List ℕ) (ms all : List Module) → ms ≡ all → (rows : List (List Target)) → rows ≡ map (row_in im ic) ms → length rows ≡ length all
+counted im ic ms all is rows e = ap length e ∙ count_map (row_in im ic) ms ∙ ap length is
+
+module _ (modules cells : List ℕ) where
+  cells_below : (xs : List Instance) → All (λ k. k < length cells) (cells_of (some_of (target_of modules cells) xs))
+  cells_below [] = All-nil (λ k. k < length cells)
+  cells_below (x ∷ xs) = by (place_of_number x.target.0 modules) (place_of_number x.target.0 cells) refl (cells_below xs)
+    where
+      by : (p q : Option ℕ) → place_of_number x.target.0 cells ≡ q → All (λ k. k < length cells) (cells_of (some_of (target_of modules cells) xs)) → All (λ k. k < length cells) (cells_of (and_more (target_by p q) (some_of (target_of modules cells) xs)))
+      by (Some j) q e rest = rest
+      by None (Some k) e rest = All-cons (λ b. b < length cells) k (cells_of (some_of (target_of modules cells) xs)) (place-below x.target.0 cells k e) rest
+      by None None e rest = rest
+
+  all_cells_below : (ms : List Module) → ReadsBelow (length cells) (cell_rows (map (row_in modules cells) ms))
+  all_cells_below [] = All-nil (λ (row : List ℕ). All (λ b. b < length cells) row)
+  all_cells_below (m ∷ ms) = All-cons (λ (row : List ℕ). All (λ b. b < length cells) row) (cells_of (row_in modules cells m)) (cell_rows (map (row_in modules cells) ms)) (cells_below m.instances) (all_cells_below ms)
+
+pub cells_within : (im ic : List ℕ) (ms : List Module) (cs all : List Cell) → cs ≡ all → ic ≡ cell_numbers cs → (rows : List (List Target)) → rows ≡ map (row_in im ic) ms → ReadsBelow (length all) (cell_rows rows)
+cells_within im ic ms cs all is_cs is_ic rows is_rows =
+    let count : length ic ≡ length all = ap length is_ic ∙ count_map (λ (x : Cell). x.name.0) cs ∙ ap length is_cs in
+    subst (λ k. ReadsBelow k (cell_rows rows)) count (subst (λ (rs : List (List Target)). ReadsBelow (length ic) (cell_rows rs)) (sym is_rows) (all_cells_below im ic ms))

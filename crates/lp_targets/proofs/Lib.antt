@@ -10,3 +10,11 @@ mod FirstLooped
 mod Refused
 mod Together
 mod Capped
+mod Orders
+mod Summed
+mod Depths
+mod Owns
+mod BelowTop
+mod OverLimits
+mod Stops
+mod Shaped

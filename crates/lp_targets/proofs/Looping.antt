@@ -116,7 +116,7 @@ module _ (s : Structure) (rows : List (List Target)) (targets : AreTargets s row
       by None r = r
       by (Some x) r = inr r
 
-  in_module : (a b : ℕ) (m k : ModuleView) → slice_get s.modules a ≡ Some m → slice_get s.modules b ≡ Some k → Reads (children rows) a b → IsIn k (modules_in s m)
+  pub in_module : (a b : ℕ) (m k : ModuleView) → slice_get s.modules a ≡ Some m → slice_get s.modules b ≡ Some k → Reads (children rows) a b → IsIn k (modules_in s m)
   in_module a b m k at there r =
       let row = at_place (map (module_of s)) (λ (x : ModuleView). map (λ (i : InstanceView). module_named s i.target) x.instances) rows s.modules targets.modules a m at in
       let same : modules_in s m ≡ some_of (module_of s) row.0 = some_map (λ (i : InstanceView). module_named s i.target) m.instances ∙ sym (ap (some_of (λ o. o)) row.2) ∙ sym (some_map (module_of s) row.0) in

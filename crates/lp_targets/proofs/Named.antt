@@ -8,8 +8,8 @@ use Rattle.lp_text.specs.Texts.{text_at, distinct, same_text_comm}
 use Rattle.lp_model.specs.Agreement.{numbers_below}
 use Rattle.lp_spec_design.specs.Keys.{Name}
 use Rattle.lp_spec_design.specs.Netlists.{first}
-use Rattle.lp_plain_index.specs.Places.{place_of_number, has_number}
-use Rattle.lp_plain_index.proofs.Numbers.{below-left, below-right, below-head, below-tail, same_name}
+use Rattle.lp_places.specs.Places.{place_of_number, has_number}
+use Rattle.lp_places.proofs.Numbers.{below-left, below-right, below-head, below-tail, same_name}
 
 -- the first number of each item
 pub below-first : {A : Type 0} (n : ℕ) (f : A → ℕ) (rest : A → List ℕ) (xs : List A) → numbers_below n (flat_map (λ x. f x ∷ rest x) xs) ≡ true → numbers_below n (map f xs) ≡ true

@@ -80,7 +80,7 @@ module _ (s : Structure) (rows : List (List Target)) (targets : AreTargets s row
       by None at h rest = behind (rest h)
       by (Some k) at h rest = pick k at (test k) refl h rest
 
-  read : (test : ModuleView → Bool) (a : ℕ) (m : ModuleView) → Stands a m → list_any test (modules_in s m) ≡ true → (b : ℕ) × (k : ModuleView) × Reads (children rows) a b × Stands b k × (test k ≡ true)
+  pub read : (test : ModuleView → Bool) (a : ℕ) (m : ModuleView) → Stands a m → list_any test (modules_in s m) ≡ true → (b : ℕ) × (k : ModuleView) × Reads (children rows) a b × Stands b k × (test k ≡ true)
   read test a m at e =
       let row = at_place (map (module_of s)) (λ (x : ModuleView). map (λ (i : InstanceView). module_named s i.target) x.instances) rows s.modules targets.modules a m at in
       let same : modules_in s m ≡ some_of (module_of s) row.0 = some_map (λ (i : InstanceView). module_named s i.target) m.instances ∙ sym (ap (some_of (λ o. o)) row.2) ∙ sym (some_map (module_of s) row.0) in
@@ -100,7 +100,7 @@ module _ (s : Structure) (rows : List (List Target)) (targets : AreTargets s row
       by b k r there true t h go = (b, k, one_read r, there, t)
       by b k r there false t h go = let far = go b k there h in (far.0, far.1, more_reads r far.2, far.3, far.4)
 
-  same_place : (a b : ℕ) (m k : ModuleView) → Stands a m → Stands b k → k.name ≡ m.name → b ≡ a
+  pub same_place : (a b : ℕ) (m k : ModuleView) → Stands a m → Stands b k → k.name ≡ m.name → b ≡ a
   same_place a b m k at there e =
       let names = map (λ (x : ModuleView). x.name) s.modules in
       let same : Some b ≡ Some a = sym (place_of-distinct names b apart (within s.modules b k there)) ∙ ap (λ t. place_of t names) (name_at s.modules b k there ∙ e ∙ sym (name_at s.modules a m at)) ∙ place_of-distinct names a apart (within s.modules a m at) in

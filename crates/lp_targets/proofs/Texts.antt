@@ -24,8 +24,8 @@ use Rattle.lp_spec_design.specs.Netlists.{Structure, first, module_named, cell_n
 use Rattle.lp_spec_design.specs.Graph.{and_more, some_of}
 use Rattle.lp_spec_faults.specs.Modules as lines
 use Rattle.lp_spec_faults.specs.Modules.{Declared, OfPart, InstanceAt, names_of, is_own, is_reserved, is_unknown, reserved_name, unknown_module}
-use Rattle.lp_plain_index.specs.Places.{place_of_number, has_number}
-use Rattle.lp_plain_index.proofs.Numbers.{below-left, below-right, below-head, below-tail}
+use Rattle.lp_places.specs.Places.{place_of_number, has_number}
+use Rattle.lp_places.proofs.Numbers.{below-left, below-right, below-head, below-tail}
 use Rattle.lp_targets.specs.Structures.{structure_of, AreNamed}
 use Rattle.lp_targets.specs.Reports.{Report, report_of, or_else, name_of, reserved_report, unknown_report, names_report}
 use Rattle.lp_targets.specs.Targets.{module_of, cell_of, AreTargets}

@@ -25,7 +25,7 @@ sum_same f g (x ∷ xs) same =
     let rest : sum_by f xs ≡ sum_by g xs = sum_same f g xs (λ y h. same y (inr h)) in
     omega (arith, sum_by-cons f x xs, sum_by-cons g x xs, first, rest)
 
-within : {A : Type 0} (xs : List A) (a : ℕ) (x : A) → slice_get xs a ≡ Some x → a < length xs
+pub within : {A : Type 0} (xs : List A) (a : ℕ) (x : A) → slice_get xs a ≡ Some x → a < length xs
 within [] a x e = cc
 within (y ∷ xs) zero x e = omega arith
 within (y ∷ xs) (suc a) x e = omega (arith, within xs a x e)

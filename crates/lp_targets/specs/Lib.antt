@@ -6,4 +6,5 @@ pub mod Marks
 pub mod Children
 pub mod Recursion
 pub mod Search
+pub mod Sizes
 pub mod Laws

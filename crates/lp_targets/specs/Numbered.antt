@@ -13,7 +13,7 @@ use Rattle.lp_model.specs.declared.netlist.Module.{Module}
 use Rattle.lp_spec_design.specs.Netlists.{first}
 use Rattle.lp_spec_design.specs.Graph.{some_of}
 use Rattle.lp_spec_faults.specs.Modules.{is_own}
-use Rattle.lp_plain_index.specs.Places.{place_of_number, has_number}
+use Rattle.lp_places.specs.Places.{place_of_number, has_number}
 use Rattle.lp_targets.specs.Reports.{or_else}
 use Rattle.lp_targets.specs.declared.target.Target.{Target}
 use Rattle.lp_targets.specs.declared.target.Target.TheVariants.{OfModule, OfCell}

@@ -1,10 +1,10 @@
 ghost use Rattle.std.specs.Prelude.{◌≡◌, ◌<◌, [], length, IfOk};
-ghost use Rattle.lp_plain_index.specs.Places.{has_number};
+ghost use Rattle.lp_places.specs.Places.{has_number};
 ghost use Rattle.lp_targets.specs.Numbered.{module_numbers, cell_numbers, target_numbered};
 
 use crate::target::Target;
 use lp_model::{Cell, Module};
-use lp_plain_index::Places;
+use lp_places::Places;
 use lp_text::{NameId, NoMemory};
 use std::alloc::Global;
 

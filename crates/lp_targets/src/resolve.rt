@@ -1,6 +1,6 @@
 ghost use Rattle.std.specs.Prelude.{◌≡◌, None, length, IfOk, IfErr};
 ghost use Rattle.lp_order.specs.Order.{ReadsBelow};
-ghost use Rattle.lp_targets.specs.Children.{children};
+ghost use Rattle.lp_targets.specs.Children.{children, cell_rows};
 ghost use Rattle.lp_targets.specs.Structures.{structure_of, AreNamed};
 ghost use Rattle.lp_targets.specs.Reports.{names_report, IsStop};
 ghost use Rattle.lp_targets.specs.Targets.{AreTargets};
@@ -44,7 +44,9 @@ pub fn targets_of(
 ) -> Result<Items<Items<Target>>, Refusal>
     requires { AreNamed names.now netlist.now library.now }
     ensures targets { IfOk result (λ rows. AreTargets (structure_of names.now netlist.now library.now) rows) }
+    ensures count { IfOk result (λ rows. length rows ≡ length netlist.now.modules) }
     ensures closed { IfOk result (λ rows. ReadsBelow (length rows) (children rows)) }
+    ensures cells { IfOk result (λ rows. ReadsBelow (length library.now.cells) (cell_rows rows)) }
     ensures ok { IfOk result (λ _. names_report (structure_of names.now netlist.now library.now) ≡ None) }
     ensures err { IfErr result (IsStop names.now (names_report (structure_of names.now netlist.now library.now))) }
 {

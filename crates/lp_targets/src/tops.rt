@@ -1,10 +1,11 @@
-ghost use Rattle.std.specs.Prelude.{◌≡◌, ℕ, ◌<◌, None, [], ◌∷◌, length, IfOk, IfErr, slice_index_or, false, true};
+ghost use Rattle.std.specs.Prelude.{◌≡◌, ◌<◌, None, [], ◌∷◌, length, IfOk, IfErr, MatchOption, slice_get, slice_index_or, false, true};
 ghost use Rattle.lp_model.specs.Agreement.{numbers_below};
 ghost use Rattle.lp_model.specs.NetlistView.{netlist_numbers};
 ghost use Rattle.lp_model.specs.declared.library.Library.{Library};
+ghost use Rattle.lp_spec_design.specs.Netlists.{first, top_of};
 ghost use Rattle.lp_targets.specs.Structures.{structure_of};
 ghost use Rattle.lp_targets.specs.Reports.{top_report, IsStop};
-ghost use Rattle.lp_targets.specs.Marks.{HasNoMarks, AddsMarks, targets_in, all_targets, count_free, tops_numbered};
+ghost use Rattle.lp_targets.specs.Marks.{HasNoMarks, AddsMarks, AreMarks, targets_in, all_targets, is_free, count_free};
 
 use lp_model::{Instance, Module, Netlist, NetlistFault, Refusal};
 use lp_text::{Names, NoMemory};
@@ -74,14 +75,51 @@ fn count_free(marks: &[bool], modules: &[Module]) -> u32
     count
 }
 
-/// How many modules are instantiated by none.
-fn tops(alloc: Global, count: u32, modules: &[Module]) -> Result<u32, NoMemory>
-    requires { length modules.now < 4294967295 }
-    ensures { IfOk result (λ n. n ≡ tops_numbered modules.now) }
+/// The first module whose name is not marked.
+fn first_free(marks: &[bool], modules: &[Module]) -> Option<usize>
+    ensures { MatchOption result (first (is_free marks.now) modules.now ≡ None) (λ k. slice_get modules.now k ≡ first (is_free marks.now) modules.now) }
+{
+    let mut place = 0;
+    for module in modules {
+        if !is_marked(marks, module.name.0) {
+            return Some(place);
+        }
+        place += 1;
+    }
+    None
+}
+
+/// The marks of all targets of instances.
+fn target_marks(alloc: Global, count: u32, modules: &[Module]) -> Result<Vec<bool>, NoMemory>
+    ensures { IfOk result (λ marks. AreMarks marks.items (all_targets modules.now)) }
 {
     let mut marks = no_marks(alloc, count)?;
     mark_all(&mut marks, modules)?;
-    Ok(count_free(marks.as_slice(), modules))
+    Ok(marks)
+}
+
+/// The place of the one module that none instantiates. Takes time and memory in proportion to the names and the netlist.
+///
+/// # Errors
+///
+/// Where it is another number than one, and where memory is refused.
+pub fn top_place(alloc: Global, names: &Names, netlist: &Netlist) -> Result<usize, Refusal>
+    requires netlist { numbers_below (length names.now) (netlist_numbers netlist.now) ≡ true }
+    requires few { length netlist.now.modules < 4294967295 }
+    ensures place { (l : Library) → let s = structure_of names.now netlist.now l in IfOk result (λ top. slice_get s.modules top ≡ top_of s) }
+    ensures ok { (l : Library) → IfOk result (λ _. top_report (structure_of names.now netlist.now l) ≡ None) }
+    ensures err { (l : Library) → IfErr result (IsStop names.now (top_report (structure_of names.now netlist.now l))) }
+{
+    let modules = netlist.modules.as_slice();
+    let marks = target_marks(alloc, names.count(), modules)?;
+    let count = count_free(marks.as_slice(), modules);
+    if count != 1 {
+        return Err(Refusal::from(NetlistFault::Top { count }));
+    }
+    match first_free(marks.as_slice(), modules) {
+        Some(place) => Ok(place),
+        None => unreachable!(),
+    }
 }
 
 /// Whether exactly one module is instantiated by none. Takes time and memory in proportion to the names and the netlist.
@@ -95,10 +133,8 @@ pub fn one_top(alloc: Global, names: &Names, netlist: &Netlist) -> Result<(), Re
     ensures ok { (l : Library) → IfOk result (λ _. top_report (structure_of names.now netlist.now l) ≡ None) }
     ensures err { (l : Library) → IfErr result (IsStop names.now (top_report (structure_of names.now netlist.now l))) }
 {
-    let count = tops(alloc, names.count(), netlist.modules.as_slice())?;
-    if count == 1 {
-        Ok(())
-    } else {
-        Err(Refusal::from(NetlistFault::Top { count }))
+    match top_place(alloc, names, netlist) {
+        Ok(_) => Ok(()),
+        Err(refusal) => Err(refusal),
     }
 }

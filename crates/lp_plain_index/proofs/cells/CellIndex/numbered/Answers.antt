@@ -1,7 +1,7 @@
 use Rattle.std.proofs.Common.{sym, ap, ◌∙◌}
 use Rattle.std.specs.Prelude.{slice_get}
 use Rattle.std.specs.Option.{option_and_then, option_copied}
-use Rattle.lp_plain_index.specs.Places.{place_of_number}
+use Rattle.lp_places.specs.Places.{place_of_number}
 use Rattle.lp_plain_index.specs.Cells.{cell_numbered}
 use Rattle.lp_plain_index.proofs.Numbers.{cell_at_number}
 use Rattle.lp_plain_index.proofs.cells.CellIndex.numbered.Goals as goal

@@ -1,6 +1,6 @@
 use Rattle.std.proofs.Common.{sym, ap, ◌∙◌, map}
 use Rattle.lp_text.specs.Texts.{text_at, place_of}
-use Rattle.lp_plain_index.specs.Places.{place_of_number}
+use Rattle.lp_places.specs.Places.{place_of_number}
 use Rattle.lp_plain_index.proofs.Numbers.{place_of_text, map_map}
 use Rattle.lp_plain_index.proofs.cells.CellIndex.place.Goals as goal
 

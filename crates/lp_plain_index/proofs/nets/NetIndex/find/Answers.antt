@@ -1,5 +1,5 @@
 use Rattle.std.proofs.Common.{sym, ap, ◌∙◌}
-use Rattle.lp_plain_index.specs.Places.{place_of_number}
+use Rattle.lp_places.specs.Places.{place_of_number}
 use Rattle.lp_plain_index.proofs.Numbers.{place_of_text}
 use Rattle.lp_plain_index.proofs.nets.NetIndex.find.Goals as goal
 

@@ -1,6 +1,6 @@
 use Rattle.std.proofs.Common.{ap, ◌∙◌}
 use Rattle.std.specs.Prelude.{is_some}
-use Rattle.lp_plain_index.specs.Places.{has_number}
+use Rattle.lp_places.specs.Places.{has_number}
 use Rattle.lp_plain_index.proofs.Numbers.{is_some-place}
 use Rattle.lp_plain_index.proofs.nets.NetIndex.has.Goals as goal
 

@@ -1,5 +1,5 @@
 use Rattle.std.proofs.Common.{ap, ◌∙◌}
-use Rattle.lp_plain_index.specs.Places.{place_of_number}
+use Rattle.lp_places.specs.Places.{place_of_number}
 use Rattle.lp_plain_index.proofs.nets.NetIndex.numbered.Goals as goal
 
 pub returns : goal.returns

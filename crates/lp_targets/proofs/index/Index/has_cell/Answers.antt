@@ -1,6 +1,6 @@
 use Rattle.std.proofs.Common.{ap, ◌∙◌}
 use Rattle.std.specs.Prelude.{is_some}
-use Rattle.lp_plain_index.proofs.Numbers.{is_some-place}
+use Rattle.lp_places.proofs.Numbers.{is_some-place}
 use Rattle.lp_targets.proofs.index.Index.has_cell.Goals as goal
 
 pub returns : goal.returns
