@@ -1,0 +1,11 @@
+mod Sorting
+mod Lists
+mod Named
+mod Parallel
+mod Ports
+mod SamePins
+mod Each
+mod SamePowered
+mod SameWidths
+mod SameCells
+mod Texts

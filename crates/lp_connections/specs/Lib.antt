@@ -1,0 +1,5 @@
+pub mod Parts
+pub mod Rows
+pub mod Numbered
+pub mod Reports
+pub mod Limits
