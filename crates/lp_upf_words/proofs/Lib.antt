@@ -1,0 +1,6 @@
+mod Again
+mod Answered
+mod Found
+mod Leaving
+mod Once
+mod Shown

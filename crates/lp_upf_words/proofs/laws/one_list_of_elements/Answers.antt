@@ -1,0 +1,8 @@
+use Rattle.lp_upf_words.proofs.Once.{each_list, once_list}
+use Rattle.lp_upf_words.proofs.laws.one_list_of_elements.Goals as goal
+
+pub returns-clause-found : goal.returns-clause-found
+returns-clause-found c = each_list
+
+pub returns-clause-once : goal.returns-clause-once
+returns-clause-once c = once_list

@@ -1,0 +1,25 @@
+-- The statements of the laws of this crate (own rule).
+use Rattle.std.specs.Prelude.{◌≡◌, ℕ, List, Some}
+use Rattle.lp_text.specs.declared.place.Place.{Place}
+use Rattle.lp_upf_words.specs.declared.mode.Stop.{Stop}
+use Rattle.lp_upf_words.specs.Words.{Outcome, Denotes, DenotesList}
+use Rattle.lp_upf_words.specs.Leaving.{LeavesAt}
+
+-- each text has an outcome
+abbrev pub EachHasWords : Type 0
+EachHasWords = (text : List ℕ) → (outcome : Outcome) × Denotes text outcome
+
+-- a text has at most one
+abbrev pub OneOutcome : Type 0
+OneOutcome = (text : List ℕ) (a b : Outcome) → Denotes text a → Denotes text b → a ≡ b
+
+-- a text that leaves the form does so at one place, that of its outcome
+abbrev pub LeavesThere : Type 0
+LeavesThere = (text : List ℕ) (outcome : Outcome) (x : Stop) → Denotes text outcome → outcome.stop ≡ Some x → LeavesAt text x
+
+-- each content of a word has elements as a list, from any place on
+abbrev pub EachHasElements : Type 0
+EachHasElements = (p : Place) (content : List ℕ) → (outcome : Outcome) × DenotesList p content outcome
+
+abbrev pub OneElements : Type 0
+OneElements = (p : Place) (content : List ℕ) (a b : Outcome) → DenotesList p content a → DenotesList p content b → a ≡ b
