@@ -55,7 +55,7 @@ filter-short p (x ∷ xs) = by (p x) (filter-short p xs)
 
 -- ---- parts
 
-kind-true : (a b : Kind) → same_part_kind a b ≡ true → a ≡ b
+pub kind-true : (a b : Kind) → same_part_kind a b ≡ true → a ≡ b
 kind-true PortOut PortOut e = refl
 kind-true Between Between e = refl
 kind-true PortIn PortIn e = refl
@@ -207,7 +207,7 @@ module _ (p : Project) (a : Additions) where
       let found = then_is (λ (s : Switching). switch_port a.uses s x) (switch_of a.plan o) q e in
       switch-apart (goes_out a.uses found.0 x) (goes_in a.uses found.0 x) found.0 q j found.2
 
-  supply-apart : (x : Path) (j : ℕ) (c : ConnectionView) → IsIn c (map (λ (q : PortView). joined_to q.name (NetBit q.name ∷ [])) (added_supply_ports p a x)) → bytes_eq c.port (control_net j) ≡ false
+  pub supply-apart : (x : Path) (j : ℕ) (c : ConnectionView) → IsIn c (map (λ (q : PortView). joined_to q.name (NetBit q.name ∷ [])) (added_supply_ports p a x)) → bytes_eq c.port (control_net j) ≡ false
   supply-apart x j c h =
       let port = of-map (λ (q : PortView). joined_to q.name (NetBit q.name ∷ [])) c (added_supply_ports p a x) h in
       let found = of-some (origin_port p a.plan a.uses x) port.0 (numbered 0 (network_of p).origins) port.1 in

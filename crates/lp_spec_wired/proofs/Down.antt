@@ -96,7 +96,7 @@ module _ (p : Project) (a : Additions) where
         own-apart c.port n (ap (λ (d : ConnectionView). is_own d.port) source.2 ∙ free.connected x m inner y source.0 e h g source.1) own
 
     -- the connections of an added name
-    module-bits : (x : Path) (m inner : ModuleView) (y : InstanceView) → module_at p.structure x ≡ Some m → IsIn y m.instances → module_named p.structure y.target ≡ Some inner
+    pub module-bits : (x : Path) (m inner : ModuleView) (y : InstanceView) → module_at p.structure x ≡ Some m → IsIn y m.instances → module_named p.structure y.target ≡ Some inner
         → (n : Name) → is_own n ≡ true → (ports : List PortView) → connected ports n (written_instance p a x y).connections ≡ bits_named n (added_connections x (y.name ∷ x))
     module-bits x m inner y e h g n own ports =
         ap (λ o. connected ports n (written_by_target p a x y o).connections) g

@@ -78,7 +78,7 @@ module _ (all : List Stretch) (x y : Path) (n : Name) where
 
 -- ---- the names of additions
 
-own-other : (m n : Name) → is_own m ≡ true → is_own n ≡ false → bytes_eq m n ≡ false
+pub own-other : (m n : Name) → is_own m ≡ true → is_own n ≡ false → bytes_eq m n ≡ false
 own-other m n f e = by (bytes_eq m n) refl
   where
     by : (b : Bool) → bytes_eq m n ≡ b → b ≡ false
@@ -106,7 +106,7 @@ module _ (p : Project) (a : Additions) where
       kind-own x found.0.0 found.0.1 q found.2
 
   -- each connection of an added port has the name of an addition
-  added-own : (x y : Path) (c : ConnectionView) → IsIn c (added_connections p a x y) → is_own c.port ≡ true
+  pub added-own : (x y : Path) (c : ConnectionView) → IsIn c (added_connections p a x y) → is_own c.port ≡ true
   added-own x y c h = elim (in-either c (map (λ (q : PortView). joined_to q.name (NetBit q.name ∷ [])) (added_supply_ports p a y)) (control_connections a.chains a.controls x y) h) [
     | inl l ↦
         let source = of-map (λ (q : PortView). joined_to q.name (NetBit q.name ∷ [])) c (added_supply_ports p a y) l in
@@ -143,10 +143,10 @@ module _ (p : Project) (a : Additions) (free : LeavesNames p.structure) (w : Str
   abbrev way : Way
   way = PortBit (inst ∷ x) n i
 
-  it : Child p a w inst x m
+  pub it : Child p a w inst x m
   it = child p a free w written inst x m e
 
-  connected-there : connected it.here.ports n it.written.connections ≡ led_bits a.chains x (inst ∷ x) n (indices q.range) (connected m.ports n it.instance.connections)
+  pub connected-there : connected it.here.ports n it.written.connections ≡ led_bits a.chains x (inst ∷ x) n (indices q.range) (connected m.ports n it.instance.connections)
   connected-there =
       ap (connected it.here.ports n) it.connections
       ∙ (bits-left n (led_connections a.chains x (it.instance.name ∷ x) m.ports it.instance.connections) (added_connections p a x (it.instance.name ∷ x)) (bits-none n (added_connections p a x (it.instance.name ∷ x)) (λ c h. own-other c.port n (added-own p a x (it.instance.name ∷ x) c h) (free.ports (inst ∷ x) m q e listed)))

@@ -1,19 +1,19 @@
-mod Added
+pub mod Added
 mod Apart
-mod Assigns
-mod Bits
-mod Chains
+pub mod Assigns
+pub mod Bits
+pub mod Chains
 mod Computed
-mod Controls
-mod Down
-mod Inputs
-mod Intervals
-mod Kept
-mod Led
-mod Lists
-mod Others
+pub mod Controls
+pub mod Down
+pub mod Inputs
+pub mod Intervals
+pub mod Kept
+pub mod Led
+pub mod Lists
+pub mod Others
 mod Ports
 mod Samples
-mod Supplies
-mod Tops
-mod Wires
+pub mod Supplies
+pub mod Tops
+pub mod Wires

@@ -83,7 +83,7 @@ module _ (p : Project) (a : Additions) (w : Structure) (f : IsFree p) (is : IsWr
     where
       by : (o : Option Kept) → kept_at a.plan place ≡ o → first (λ (k : CellView). bytes_eq k.name (kept_target n o)) s.cells ≡ or_cell (Some c) o
       by None g = e
-      by (Some k) g = first-cell s.cells k.cell apart (listed.registers k (first_in _ a.plan.registers k g).0)
+      by (Some k) g = first-cell s.cells k.cell apart (listed.registers k (first_in _ a.plan.registers k g).0).listed
 
   pub source-cell : (place : Placed) (c : CellView) → cell_of s place ≡ Some c → cell_of w place ≡ or_cell (Some c) (kept_at a.plan place)
   source-cell place c e =

@@ -36,11 +36,11 @@ use Rattle.lp_spec_written_at.proofs.NoOthers.{stands-in, no-others}
 use Rattle.lp_spec_written_at.proofs.Distinct.{apart-distinct, cells-apart}
 use Rattle.lp_spec_written_at.proofs.OperatorsApart.{apart-map, written-for, placed-apart}
 
-of-apart-map : {A B : Type 0} (f : A → B) (xs : List A) → IsApart (map f xs) → IsApart xs
+pub of-apart-map : {A B : Type 0} (f : A → B) (xs : List A) → IsApart (map f xs) → IsApart xs
 of-apart-map f [] apart = tt
 of-apart-map f (x ∷ xs) apart = (λ h. apart.0 (in-map f x xs h), of-apart-map f xs apart.1)
 
-numbers-tell : {A : Type 0} (k : ℕ) (xs : List A) (y z : ℕ × A) → IsIn y (numbered k xs) → IsIn z (numbered k xs) → y.0 ≡ z.0 → y ≡ z
+pub numbers-tell : {A : Type 0} (k : ℕ) (xs : List A) (y z : ℕ × A) → IsIn y (numbered k xs) → IsIn z (numbered k xs) → y.0 ≡ z.0 → y ≡ z
 numbers-tell k [] y z h g same = absurd h
 numbers-tell k (x ∷ xs) y z (inl a) (inl b) same = a ∙ sym b
 numbers-tell k (x ∷ xs) y z (inl a) (inr r) same =

@@ -29,7 +29,7 @@ use Rattle.lp_spec_written_at.proofs.Operators.{named-from, clamp-apart, shift-a
 use Rattle.lp_spec_written_at.proofs.OperatorsApart.{apart-map}
 use Rattle.lp_spec_written_at.proofs.CellsApart.{name-number, no-letter}
 
-apart-names : (ns : List Name) → IsApart ns → are_apart ns ≡ true
+pub apart-names : (ns : List Name) → IsApart ns → are_apart ns ≡ true
 apart-names [] apart = refl
 apart-names (n ∷ ns) apart = both (not (list_any (bytes_eq n) ns)) (are_apart ns) (ap not (none-any (bytes_eq n) ns (λ m h. by m h (bytes_eq n m) refl))) (apart-names ns apart.1)
   where
@@ -41,7 +41,7 @@ map-append : {A B : Type 0} (f : A → B) (xs ys : List A) → map f (xs ++ ys) 
 map-append f [] ys = refl
 map-append f (x ∷ xs) ys = ap (λ r. f x ∷ r) (map-append f xs ys)
 
-map-twice : {A B C : Type 0} (f : B → C) (g : A → B) (h : A → C) → ((x : A) → f (g x) ≡ h x) → (xs : List A) → map f (map g xs) ≡ map h xs
+pub map-twice : {A B C : Type 0} (f : B → C) (g : A → B) (h : A → C) → ((x : A) → f (g x) ≡ h x) → (xs : List A) → map f (map g xs) ≡ map h xs
 map-twice f g h same [] = refl
 map-twice f g h same (x ∷ xs) = ap (λ r. r ∷ map f (map g xs)) (same x) ∙ ap (λ r. h x ∷ r) (map-twice f g h same xs)
 
@@ -115,7 +115,7 @@ module _ (p : Project) (l : Lists) (f : IsFree p) (x : Path) (m : ModuleView) (e
       let pair = of-pairs operator.0 (operator_names 0 0 os) all operator.1 in
       no-letter operator.0.0 switch.0.0 (operator-letter 0 0 os operator.0.0 pair.0) (sym (one.2 ∙ ap name_of operator.2) ∙ (two.2 ∙ ap name_of switch.2))
 
-  added : IsApart (map name_of (written_operators p a x ++ written_switches p a x))
+  pub added : IsApart (map name_of (written_operators p a x ++ written_switches p a x))
   added = subst (λ ns. IsApart ns) (sym (map-append name_of (written_operators p a x) (written_switches p a x))) (apart-append (map name_of (written_operators p a x)) (map name_of (written_switches p a x)) operators switches kinds)
 
   sides : (n : Name) → IsIn n (map name_of (map (written_instance p a x) m.instances)) → IsIn n (map name_of (written_operators p a x ++ written_switches p a x)) → ⊥

@@ -190,7 +190,7 @@ asked-bit p o h =
     let made = of-map (λ x. record { bit = at.0; number = x.0; operator = x.1 }) o (numbered 0 (chain_of p at.0)) at.2 in
     subst (λ b. IsIn b (boundary p.structure p.intent)) (sym (ap (λ (r : OperatorAt). r.bit) made.2)) at.1
 
-stands-near : (p : Project) (l : Lists) (o : OperatorAt) (s : Standing) → operator_path p o ≡ Some s.path → (s.path ≡ o.bit.path) ⊎ (s.path ≡ parent_of o.bit.path)
+pub stands-near : (p : Project) (l : Lists) (o : OperatorAt) (s : Standing) → operator_path p o ≡ Some s.path → (s.path ≡ o.bit.path) ⊎ (s.path ≡ parent_of o.bit.path)
 stands-near p l o s e =
     let found = then_is (λ (t : Strategy). Some (path_by o.bit.path (side) t.location)) (slice_get p.intent.strategies (strategy_of o.operator)) s.path e in
     inside (path_by o.bit.path side found.0.location) found.2 (near-by o.bit.path side found.0.location)

@@ -1,5 +1,6 @@
 pub mod Names
 pub mod Lists
+pub mod Usable
 pub mod Modules
 pub mod Paths
 pub mod Netlists
@@ -22,3 +23,17 @@ pub mod OperatorsApart
 pub mod CellsApart
 pub mod ModuleNames
 pub mod InstanceNames
+pub mod Targets
+pub mod Wiring
+pub mod Above
+pub mod Weave
+pub mod Homes
+pub mod SupplyNames
+pub mod PartNames
+pub mod ControlNodes
+pub mod Declared
+pub mod JoinedBits
+pub mod Projects
+pub mod PinsAt
+pub mod SourcePins
+pub mod ControlNames

@@ -1,5 +1,5 @@
 -- The written netlist has at each path of the source the written module of that path.
-use Rattle.std.proofs.Common.{◌≡◌, ◌≤◌, ◌<◌, ℕ, ◌+◌, Bool, true, false, not, ◌||◌, List, [], ◌∷◌, ◌++◌, length, map, Option, Some, None, inl, inr, refl, sym, ap, ◌∙◌, subst, arith}
+use Rattle.std.proofs.Common.{◌≡◌, ◌≤◌, ◌<◌, ℕ, ◌+◌, Bool, true, false, not, ◌&&◌, ◌||◌, List, [], ◌∷◌, ◌++◌, length, map, Option, Some, None, inl, inr, refl, sym, ap, ◌∙◌, subst, arith}
 use Rattle.std.specs.Prelude.{slice_get, drop, filter, flat_map, if◌then◌else◌, bytes_eq, option_and_then, decimal, is_some}
 use Rattle.std.specs.List.{list_all}
 use Rattle.std.proofs.lemmas.Bool.{false≢true}
@@ -16,19 +16,21 @@ use Rattle.lp_spec_design.specs.Domains.{BoundaryBit, boundary}
 use Rattle.lp_spec_design.specs.Winners.{IsIn, one_if}
 use Rattle.lp_spec_design.specs.Chains.{Operator, Clamp, Shift}
 use Rattle.lp_spec_design.specs.Reads.{other, name-true, name-self}
-use Rattle.lp_spec_design.proofs.Members.{in-right, in-either, in-map, in-flat, of-map, of-flat, of-filter, of-some, of-pairs, of-numbered}
+use Rattle.lp_spec_design.proofs.Members.{in-left, in-right, in-either, in-map, in-flat, of-map, of-flat, of-filter, of-some, of-pairs, of-numbered}
 use Rattle.lp_spec_design.proofs.Sources.{then_is, first_in, in_reach}
 use Rattle.lp_spec_realises.specs.Projects.{Project}
 use Rattle.lp_spec_realises.specs.ProjectNetlists.{netlist_of, are_apart, names_in, is_known}
 use Rattle.lp_spec_realises.specs.Operators.{OperatorAt, all_operators, all_switches}
 use Rattle.lp_spec_realises.specs.Implements.{Lists, operator_path, operator_chosen, switch_chosen, register_chosen, is_retained}
-use Rattle.lp_spec_faults.specs.Modules.{Declared, OfModule, OfPart, names_of, is_own, is_cell, is_reserved}
+use Rattle.lp_spec_fit.specs.Fits.{is_usable}
+use Rattle.lp_spec_faults.specs.Modules.{Declared, OfModule, OfPart, names_of, is_own, is_cell, is_reserved, instances_of, all_instances}
 use Rattle.lp_spec_written.specs.Places.{instances, instance_number, Standing, Kept, Switching, Plan, cell_numbered, standing_at, standing, kept_by, kept, switching, plan, operator_names, operator_name, is_clamp, is_shift, switches_in}
 use Rattle.lp_spec_written.specs.Supplies.{kept_at}
 use Rattle.lp_spec_written.specs.Nets.{Stretch, operators_there, net_count, stretches_from, stretches, stretches_in, linked, Linked}
 use Rattle.lp_spec_written.specs.Written.{Additions, additions, module_name, kept_target, written_by_target, written_instance, written_operator, named_operators, written_operators, written_switches, written_switch, written_instances, written_module, written_by, written}
 use Rattle.lp_spec_wired.specs.Contents.{IsInstance, AreInstances, IsWrittenAt}
-use Rattle.lp_spec_written_at.specs.Sources.{IsFree, HasListedCells, IsReached}
+use Rattle.lp_spec_written_at.specs.Sources.{takes_own_name, has_own_target, IsFree, IsListed, HasListedCells, IsReached}
+use Rattle.lp_spec_written_at.proofs.Usable.{operator-usable, register-usable, switch-usable}
 use Rattle.lp_spec_written_at.proofs.Names.{same-number}
 use Rattle.lp_spec_written_at.proofs.Lists.{none-first, first-head, first-left, first-right, first-made, none-made, only-first, number-tells, number-small, none-any, any-none, of-all, apart-right, first-apart, in-slice}
 
@@ -47,17 +49,21 @@ from-modules s (i ∷ x) m e =
     let inst = then_is (λ (y : InstanceView). module_named s y.target) (instance_named above.0 i) m above.2 in
     (first_in (λ (k : ModuleView). bytes_eq k.name inst.0.target) s.modules m inst.2).0
 
-no-top : (s : Structure) (x : Path) → top_of s ≡ None → module_at s x ≡ None
+pub no-top : (s : Structure) (x : Path) → top_of s ≡ None → module_at s x ≡ None
 no-top s [] e = e
 no-top s (i ∷ x) e = ap (λ o. option_and_then (λ (k : ModuleView). option_and_then (λ (y : InstanceView). module_named s y.target) (instance_named k i)) o) (no-top s x e)
 
-left-false : (a b : Bool) → (a || b) ≡ false → a ≡ false
+pub left-false : (a b : Bool) → (a || b) ≡ false → a ≡ false
 left-false true b e = e
 left-false false b e = refl
 
 right-false : (a b : Bool) → (a || b) ≡ false → b ≡ false
 right-false true b e = absurd (false≢true (sym e))
 right-false false b e = e
+
+pub right-of : (a b : Bool) → a ≡ true → (a && b) ≡ false → b ≡ false
+right-of true b h e = e
+right-of false b h e = absurd (false≢true h)
 
 -- a name that begins as the added ones is no other name
 own-differs : (m n : Name) → is_own m ≡ true → is_own n ≡ false → bytes_eq m n ≡ false
@@ -85,12 +91,28 @@ own-operators : (j k : ℕ) (os : List Operator) (n : Name) → IsIn n (operator
 own-operators j k [] n h = absurd h
 own-operators j k (o ∷ os) n h = elim h [ inl is ↦ ap is_own is ∙ own-operator j k o | inr r ↦ own-operators (j + one_if (is_clamp o)) (k + one_if (is_shift o)) os n r ]
 
--- an instance that is added: its name begins so, and it is one of a cell of the library
+-- an instance that is added: its name begins so, and it is one of a cell of the library whose name does not
 pub record IsAddedCell (p : Project) (y : InstanceView) : Type 0 where
   pub own : is_own y.name ≡ true
   pub cell : CellView
   pub listed : IsIn cell p.structure.cells
+  pub free : is_own cell.name ≡ false
   pub target : y.target ≡ cell.name
+
+-- ---- names of the source
+
+module _ (p : Project) (f : IsFree p) where
+  free-part : (m : ModuleView) (n : Name) → IsIn m p.structure.modules → IsIn (OfPart n) (names_of m) → is_own n ≡ false
+  free-part m n h g = any-none (is_reserved p.structure) (OfPart n) (flat_map names_of p.structure.modules) f.names (in-flat names_of m (OfPart n) p.structure.modules h g)
+
+  pub free-port : (m : ModuleView) (q : PortView) → IsIn m p.structure.modules → IsIn q m.ports → is_own q.name ≡ false
+  free-port m q h g = free-part m q.name h (inr (in-left (OfPart q.name) (map (λ (r : PortView). OfPart r.name) m.ports) _ (in-map (λ (r : PortView). OfPart r.name) q m.ports g)))
+
+  pub free-net : (m : ModuleView) (n : NetView) → IsIn m p.structure.modules → IsIn n m.nets → is_own n.name ≡ false
+  free-net m n h g =
+      free-part m n.name h
+      (inr (in-right (OfPart n.name) (map (λ (q : PortView). OfPart q.name) m.ports) _
+      (in-left (OfPart n.name) (map (λ (v : NetView). OfPart v.name) m.nets) _ (in-map (λ (v : NetView). OfPart v.name) n m.nets g))))
 
 -- ---- the modules
 
@@ -111,7 +133,7 @@ module _ (p : Project) (a : Additions) (f : IsFree p) (listed : HasListedCells p
         | inr h ↦ h.1
       ]
 
-  free-declared : (m : ModuleView) (d : Declared) → IsIn m s.modules → IsIn d (names_of m) → is_reserved s d ≡ false
+  pub free-declared : (m : ModuleView) (d : Declared) → IsIn m s.modules → IsIn d (names_of m) → is_reserved s d ≡ false
   free-declared m d h g = any-none (is_reserved s) d (flat_map names_of s.modules) f.names (in-flat names_of m d s.modules h g)
 
   free-module : (m : ModuleView) → IsIn m s.modules → is_own m.name ≡ false
@@ -126,8 +148,11 @@ module _ (p : Project) (a : Additions) (f : IsFree p) (listed : HasListedCells p
       (inr (in-right (OfPart y.name) (map (λ (q : PortView). OfPart q.name) m.ports) _
       (in-right (OfPart y.name) (map (λ (n : NetView). OfPart n.name) m.nets) _ (in-map (λ (i : InstanceView). OfPart i.name) y m.instances g))))
 
-  free-cell : (c : CellView) → IsIn c s.cells → is_own c.name ≡ false
-  free-cell c h = any-none (λ (k : CellView). is_own k.name) c s.cells f.cells h
+  free-cell : (c : CellView) → IsListed p c → is_own c.name ≡ false
+  free-cell c h = right-of (is_usable c) (is_own c.name) h.usable (any-none takes_own_name c s.cells f.cells h.listed)
+
+  free-target : (m : ModuleView) (y : InstanceView) → IsIn m s.modules → IsIn y m.instances → is_own y.target ≡ false
+  free-target m y h g = any-none has_own_target (record { parent = m; instance = y }) (all_instances s) f.targets (in-flat instances_of m (record { parent = m; instance = y }) s.modules h (in-map (λ i. record { parent = m; instance = i }) y m.instances g))
 
   not-the-cell : (m : ModuleView) (c : CellView) → IsIn m s.modules → IsIn c s.cells → bytes_eq c.name m.name ≡ false
   not-the-cell m c h g = any-none (λ (k : CellView). bytes_eq k.name m.name) c s.cells (no-cell m h) g
@@ -152,11 +177,11 @@ module _ (p : Project) (a : Additions) (f : IsFree p) (listed : HasListedCells p
       tails is = ap (λ (k : Name). drop 3 k) is
 
   -- a module of the netlist is that of an instance
-  record IsOf (k : ModuleView) : Type 0 where
-    path : Path
-    source : ModuleView
-    at : module_at s path ≡ Some source
-    is : k ≡ written_module p a path source
+  pub record IsOf (k : ModuleView) : Type 0 where
+    pub path : Path
+    pub source : ModuleView
+    pub at : module_at s path ≡ Some source
+    pub is : k ≡ written_module p a path source
 
   of-item : (x : Path) (k : ModuleView) → item p a x ≡ Some k → IsOf k
   of-item x k e =
@@ -165,7 +190,7 @@ module _ (p : Project) (a : Additions) (f : IsFree p) (listed : HasListedCells p
       let is : k ≡ written_module p a x found.0 = cc in
       record { path = x; source = found.0; at = found.1; is = is }
 
-  of-written : (k : ModuleView) → IsIn k w.modules → IsOf k
+  pub of-written : (k : ModuleView) → IsIn k w.modules → IsOf k
   of-written k h = let found = of-some (item p a) k (instances p) h in of-item found.0 k found.2
 
   named-at : (x : Path) (m : ModuleView) → module_at s x ≡ Some m → module_named w (module_name p x m.name) ≡ Some (written_module p a x m)
@@ -185,31 +210,32 @@ module _ (p : Project) (a : Additions) (f : IsFree p) (listed : HasListedCells p
           sym made ∙ (ap (λ z. written_module p a z found.0) (sym same) ∙ ap (written_module p a x) (sym eq))
 
   -- no module is named as a cell
-  name-of-no-cell : (x : Path) (m : ModuleView) (c : CellView) → IsIn m s.modules → IsIn c s.cells → bytes_eq (module_name p x m.name) c.name ≡ false
-  name-of-no-cell [] m c h g = swap (bytes_eq m.name c.name) refl
+  name-of-no-cell : (x : Path) (m : ModuleView) (c : CellView) → IsIn m s.modules → IsIn c s.cells → is_own c.name ≡ false → bytes_eq (module_name p x m.name) c.name ≡ false
+  name-of-no-cell [] m c h g free = swap (bytes_eq m.name c.name) refl
     where
       swap : (b : Bool) → bytes_eq m.name c.name ≡ b → b ≡ false
       swap false e = refl
       swap true e = absurd (false≢true (sym (not-the-cell m c h g) ∙ (ap (λ n. bytes_eq c.name n) (name-true m.name c.name e) ∙ name-self c.name)))
-  name-of-no-cell (i ∷ x) m c h g = own-differs (module_name p (i ∷ x) m.name) c.name (own-module p i x m.name) (free-cell c g)
+  name-of-no-cell (i ∷ x) m c h g free = own-differs (module_name p (i ∷ x) m.name) c.name (own-module p i x m.name) free
 
-  cell-not-named : (c : CellView) → IsIn c s.cells → module_named w c.name ≡ None
-  cell-not-named c g = none-first (λ (k : ModuleView). bytes_eq k.name c.name) w.modules none
+  cell-not-named : (c : CellView) → IsIn c s.cells → is_own c.name ≡ false → module_named w c.name ≡ None
+  cell-not-named c g free = none-first (λ (k : ModuleView). bytes_eq k.name c.name) w.modules none
     where
       none : (k : ModuleView) → IsIn k w.modules → bytes_eq k.name c.name ≡ false
       none k h =
           let of = of-written k h in
-          ap (λ (z : ModuleView). bytes_eq z.name c.name) of.is ∙ name-of-no-cell of.path of.source c (from-modules s of.path of.source of.at) g
+          ap (λ (z : ModuleView). bytes_eq z.name c.name) of.is ∙ name-of-no-cell of.path of.source c (from-modules s of.path of.source of.at) g free
 
   -- ---- targets
 
   pub record HasCellName (n : Name) : Type 0 where
     pub cell : CellView
     pub known : IsIn cell s.cells
+    pub free : is_own cell.name ≡ false
     pub is : n ≡ cell.name
 
   from-cell-name : (n : Name) → HasCellName n → module_named w n ≡ None
-  from-cell-name n h = ap (module_named w) h.is ∙ cell-not-named h.cell h.known
+  from-cell-name n h = ap (module_named w) h.is ∙ cell-not-named h.cell h.known h.free
 
   -- a target that is no module of the source is a cell
   cell-of-source : (m : ModuleView) (y : InstanceView) → IsIn m s.modules → IsIn y m.instances → module_named s y.target ≡ None → HasCellName y.target
@@ -219,7 +245,8 @@ module _ (p : Project) (a : Additions) (f : IsFree p) (listed : HasListedCells p
       found None is some = absurd (false≢true some)
       found (Some c) is some =
           let at = first_in (λ (k : CellView). bytes_eq k.name y.target) s.cells c is in
-          record { cell = c; known = at.0; is = sym (name-true c.name y.target at.1) }
+          let same = name-true c.name y.target at.1 in
+          record { cell = c; known = at.0; free = ap is_own same ∙ free-target m y h g; is = sym same }
 
       by : (o : Option ModuleView) → o ≡ None → (is_some o || is_some (if is_some o then None else first (λ (c : CellView). bytes_eq c.name y.target) s.cells)) ≡ true → HasCellName y.target
       by None is some = found (first (λ (c : CellView). bytes_eq c.name y.target) s.cells) refl some
@@ -230,7 +257,7 @@ module _ (p : Project) (a : Additions) (f : IsFree p) (listed : HasListedCells p
     where
       by : (o : Option Kept) → kept_at a.plan place ≡ o → HasCellName (kept_target n o)
       by None e = h
-      by (Some k) e = record { cell = k.cell; known = listed.registers k (first_in _ a.plan.registers k e).0; is = refl }
+      by (Some k) e = let its = listed.registers k (first_in _ a.plan.registers k e).0 in record { cell = k.cell; known = its.listed; free = free-cell k.cell its; is = refl }
 
   -- a cell instance stays one
   pub cell-target : (x : Path) (m : ModuleView) (y : InstanceView) → IsIn m s.modules → IsIn y m.instances → module_named s y.target ≡ None → HasCellName (written_instance p a x y).target
@@ -255,10 +282,12 @@ module _ (p : Project) (a : Additions) (f : IsFree p) (listed : HasListedCells p
           let stretch = of-flat _ one.0.1 (stretches_in a.chains x) pair.1 in
           let chain = of-filter _ stretch.0 a.chains stretch.1 in
           let standing = of-pairs one.0.1 stretch.0.operators _ stretch.2 in
+          let its = listed.chains stretch.0 chain.0 one.0.1.0 standing.0 in
           record {
             own = ap (λ (z : InstanceView). is_own z.name) one.2 ∙ own-operators 0 0 (map (λ (z : Linked). z.0.asked.operator) (linked p a.chains x)) one.0.0 pair.0;
             cell = one.0.1.0.cell;
-            listed = listed.chains stretch.0 chain.0 one.0.1.0 standing.0;
+            listed = its.listed;
+            free = free-cell one.0.1.0.cell its;
             target = ap (λ (z : InstanceView). z.target) one.2;
           }
 
@@ -266,15 +295,17 @@ module _ (p : Project) (a : Additions) (f : IsFree p) (listed : HasListedCells p
       switches r =
           let one = of-map (written_switch p a x) y (numbered 0 (switches_in a.plan x)) r in
           let there = of-filter _ one.0.1 a.plan.switches (of-numbered 0 one.0 (switches_in a.plan x) one.1) in
+          let its = listed.switches one.0.1 there.0 in
           record {
             own = ap (λ (z : InstanceView). is_own z.name) one.2;
             cell = one.0.1.cell;
-            listed = listed.switches one.0.1 there.0;
+            listed = its.listed;
+            free = free-cell one.0.1.cell its;
             target = ap (λ (z : InstanceView). z.target) one.2;
           }
 
   added-not-named : (x : Path) (y : InstanceView) → IsIn y (written_operators p a x ++ written_switches p a x) → module_named w y.target ≡ None
-  added-not-named x y h = let is = is-added x y h in from-cell-name y.target (record { cell = is.cell; known = is.listed; is = is.target })
+  added-not-named x y h = let is = is-added x y h in from-cell-name y.target (record { cell = is.cell; known = is.listed; free = is.free; is = is.target })
 
   -- what stands there under a name that the source does not have is no module
   none-added : (x : Path) (m : ModuleView) (n : Name) → first (λ (k : InstanceView). bytes_eq k.name n) m.instances ≡ None → option_and_then (λ (z : InstanceView). module_named w z.target) (first (λ (k : InstanceView). bytes_eq k.name n) (written_instances p a x m)) ≡ None
@@ -302,7 +333,7 @@ module _ (p : Project) (a : Additions) (f : IsFree p) (listed : HasListedCells p
       let here : IsIn i (written_instances p a of.path of.source) = subst (λ (z : ModuleView). IsIn i z.instances) of.is g in
       elim (in-either i (map (written_instance p a of.path) of.source.instances) (written_operators p a of.path ++ written_switches p a of.path) here) [
         | inl l ↦ let one = of-map (written_instance p a of.path) i of.source.instances l in ap (λ (z : InstanceView). bytes_eq z.target top.name) one.2 ∙ source of.path of.source one.0 there one.1 (module_named s one.0.target) refl
-        | inr r ↦ let is = is-added of.path i r in cell (record { cell = is.cell; known = is.listed; is = is.target })
+        | inr r ↦ let is = is-added of.path i r in cell (record { cell = is.cell; known = is.listed; free = is.free; is = is.target })
       ]
     where
       cell : {n : Name} → HasCellName n → bytes_eq n top.name ≡ false
@@ -316,7 +347,7 @@ module _ (p : Project) (a : Additions) (f : IsFree p) (listed : HasListedCells p
   top-free : (top : ModuleView) → IsIn top s.modules → is_instantiated w top.name ≡ false
   top-free top t = none-any _ w.modules (λ k h. none-any (λ (i : InstanceView). bytes_eq i.target top.name) k.instances (other-target top t k h))
 
-  starts : (rest : List Path) × (instances p ≡ [] ∷ rest)
+  pub starts : (rest : List Path) × (instances p ≡ [] ∷ rest)
   unfolding module_instances
   starts = (flat_map (below s 63) (children s []), refl)
 
@@ -419,48 +450,48 @@ module _ (p : Project) (a : Additions) (f : IsFree p) (listed : HasListedCells p
     none = none;
   }
 
--- ---- the cells of a plan are of the library
+-- ---- the cells of a plan are of the library, and can be used
 
 in-numbered : (p : Project) (k : Option ℕ) (c : CellView) → cell_numbered p k ≡ Some c → IsIn c p.structure.cells
 in-numbered p k c e = let found = then_is (slice_get p.structure.cells) k c e in in-slice p.structure.cells found.0 c found.2
 
-standing-listed : (p : Project) (l : Lists) (o : OperatorAt) (x : Option Path) (k : Standing) → standing_at p l o x ≡ Some k → IsIn k.cell p.structure.cells
+is-listed : (p : Project) (k : Option ℕ) (c d : CellView) → cell_numbered p k ≡ Some c → is_usable c ≡ true → d ≡ c → IsListed p d
+is-listed p k c d e usable is = subst (IsListed p) (sym is) (record { listed = in-numbered p k c e; usable = usable })
+
+standing-listed : (p : Project) (l : Lists) (o : OperatorAt) (x : Option Path) (k : Standing) → standing_at p l o x ≡ Some k → IsListed p k.cell
 standing-listed p l o None k e = absurd cc
 standing-listed p l o (Some x) k e =
     let found = then_is (λ c. Some (record { asked = o; path = x; cell = c })) (cell_numbered p (operator_chosen p l x o.operator)) k e in
     let made : Some (record { asked = o; path = x; cell = found.0 }) ≡ Some k = found.2 in
-    let is : k.cell ≡ found.0 = ap (λ q. cell_or found.0 q) (sym made) in
-    subst (λ c. IsIn c p.structure.cells) (sym is) (in-numbered p (operator_chosen p l x o.operator) found.0 found.1)
+    is-listed p (operator_chosen p l x o.operator) found.0 k.cell found.1 (operator-usable p l x o.operator found.0 found.1) (ap (λ q. cell_or found.0 q) (sym made))
   where
     cell_or : CellView → Option Standing → CellView
     cell_or c None = c
     cell_or c (Some q) = q.cell
 
-operators-listed : (p : Project) (l : Lists) (k : Standing) → IsIn k (plan p l).operators → IsIn k.cell p.structure.cells
+operators-listed : (p : Project) (l : Lists) (k : Standing) → IsIn k (plan p l).operators → IsListed p k.cell
 operators-listed p l k h = let found = of-some (standing p l) k (all_operators p) h in standing-listed p l found.0 (operator_path p found.0) k found.2
 
-kept-listed : (p : Project) (l : Lists) (y : Placed) (t : Option Strategy) (k : Kept) → kept_by p l y t ≡ Some k → IsIn k.cell p.structure.cells
+kept-listed : (p : Project) (l : Lists) (y : Placed) (t : Option Strategy) (k : Kept) → kept_by p l y t ≡ Some k → IsListed p k.cell
 kept-listed p l y None k e = absurd cc
 kept-listed p l y (Some t) k e =
     let found = then_is (λ c. Some (record { place = y; strategy = t; cell = c })) (cell_numbered p (register_chosen p l y)) k e in
     let made : Some (record { place = y; strategy = t; cell = found.0 }) ≡ Some k = found.2 in
-    let is : k.cell ≡ found.0 = ap (λ q. cell_or found.0 q) (sym made) in
-    subst (λ c. IsIn c p.structure.cells) (sym is) (in-numbered p (register_chosen p l y) found.0 found.1)
+    is-listed p (register_chosen p l y) found.0 k.cell found.1 (register-usable p l y found.0 found.1) (ap (λ q. cell_or found.0 q) (sym made))
   where
     cell_or : CellView → Option Kept → CellView
     cell_or c None = c
     cell_or c (Some q) = q.cell
 
-registers-listed : (p : Project) (l : Lists) (k : Kept) → IsIn k (plan p l).registers → IsIn k.cell p.structure.cells
+registers-listed : (p : Project) (l : Lists) (k : Kept) → IsIn k (plan p l).registers → IsListed p k.cell
 registers-listed p l k h = let found = of-some (kept p l) k (filter (is_retained p) (cell_instances p.structure)) h in kept-listed p l found.0 (retention p.intent found.0.path found.0.instance) k found.2
 
-switches-listed : (p : Project) (l : Lists) (k : Switching) → IsIn k (plan p l).switches → IsIn k.cell p.structure.cells
+switches-listed : (p : Project) (l : Lists) (k : Switching) → IsIn k (plan p l).switches → IsListed p k.cell
 switches-listed p l k h =
     let at = of-some (switching p l) k (numbered 0 (all_switches p)) h in
     let found = then_is (λ c. Some (record { asked = at.0.1; number = at.0.0; path = l.scope_of_switch at.0.1.origin; cell = c })) (cell_numbered p (switch_chosen p l at.0.1)) k at.2 in
     let made : Some (record { asked = at.0.1; number = at.0.0; path = l.scope_of_switch at.0.1.origin; cell = found.0 }) ≡ Some k = found.2 in
-    let is : k.cell ≡ found.0 = ap (λ q. cell_or found.0 q) (sym made) in
-    subst (λ c. IsIn c p.structure.cells) (sym is) (in-numbered p (switch_chosen p l at.0.1) found.0 found.1)
+    is-listed p (switch_chosen p l at.0.1) found.0 k.cell found.1 (switch-usable p l at.0.1 found.0 found.1) (ap (λ q. cell_or found.0 q) (sym made))
   where
     cell_or : CellView → Option Switching → CellView
     cell_or c None = c
@@ -476,7 +507,7 @@ from-stretches p a x k (b ∷ bits) s h o g = elim h [
 pub cells-listed : (p : Project) (l : Lists) → HasListedCells p (additions p l)
 cells-listed p l = record { chains = chains; registers = registers-listed p l; switches = switches-listed p l }
   where
-    chains : (s : Stretch) → IsIn s (stretches p (plan p l)) → (o : Standing) → IsIn o s.operators → IsIn o.cell p.structure.cells
+    chains : (s : Stretch) → IsIn s (stretches p (plan p l)) → (o : Standing) → IsIn o s.operators → IsListed p o.cell
     chains s h o g =
         let all = of-filter _ s (flat_map (λ x. stretches_from p (plan p l) x 0 (boundary p.structure p.intent)) (instances p)) h in
         let at = of-flat (λ x. stretches_from p (plan p l) x 0 (boundary p.structure p.intent)) s (instances p) all.0 in

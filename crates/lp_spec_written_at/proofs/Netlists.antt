@@ -115,7 +115,7 @@ module _ (p : Project) (a : Additions) (w : Structure) (f : IsFree p) (is : IsWr
         let path : module_at w (one.written.name ∷ x) ≡ None = sym one.is.inner ∙ none in
         let cells = elim (in-either one.written (map (written_instance p a x) of.0.instances) (written_operators p a x ++ written_switches p a x) one.among) as (λ _. HasCellName p a f listed one.written.target) [
           | inl l ↦ source-cell x of.0 of.1 one.written l path
-          | inr r ↦ let k = is-added p a f listed x one.written r in record { cell = k.cell; known = k.listed; is = k.target }
+          | inr r ↦ let k = is-added p a f listed x one.written r in record { cell = k.cell; known = k.listed; free = k.free; is = k.target }
         ] in
         subst (HasCellName p a f listed) (sym (one.is.cell path)) cells
 

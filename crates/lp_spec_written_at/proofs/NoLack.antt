@@ -27,7 +27,7 @@ use Rattle.lp_spec_written_at.specs.Sources.{HasRegisterCells}
 use Rattle.lp_spec_written_at.proofs.Paths.{some-is}
 use Rattle.lp_spec_written_at.proofs.SourceCells.{in-filter}
 
-none-passes : {A : Type 0} (t : A → Bool) (xs : List A) (x : A) → first t xs ≡ None → IsIn x xs → t x ≡ false
+pub none-passes : {A : Type 0} (t : A → Bool) (xs : List A) (x : A) → first t xs ≡ None → IsIn x xs → t x ≡ false
 none-passes t [] x e h = absurd h
 none-passes t (y ∷ xs) x e h = by (t y) refl e h (λ f g. none-passes t xs x f g)
   where

@@ -139,7 +139,7 @@ module _ (p : Project) (a : Additions) (w : Structure) (f : IsFree p) (is : IsWr
         let stretch = of-flat _ y.1 (stretches_in a.chains x) pair.1 in
         let chain = of-filter _ stretch.0 a.chains stretch.1 in
         let standing = of-pairs y.1 stretch.0.operators _ stretch.2 in
-        listed.chains stretch.0 chain.0 y.1.0 standing.0
+        (listed.chains stretch.0 chain.0 y.1.0 standing.0).listed
 
     not-of-source : first (λ (k : InstanceView). bytes_eq k.name y.0) m.instances ≡ None
     not-of-source =

@@ -31,7 +31,7 @@ use Rattle.lp_spec_written_at.proofs.Lists.{none-first, some-first, in-some, of-
 use Rattle.lp_spec_written_at.proofs.Modules.{from-modules}
 use Rattle.lp_spec_written_at.proofs.Paths.{some-is}
 use Rattle.lp_spec_written_at.proofs.Cells.{source-cells}
-use Rattle.lp_spec_written_at.proofs.Stands.{fits-chosen}
+use Rattle.lp_spec_written_at.proofs.Usable.{fits-chosen}
 
 -- ---- places
 

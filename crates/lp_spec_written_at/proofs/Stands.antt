@@ -16,9 +16,8 @@ use Rattle.lp_spec_design.specs.Reads.{one, other, both, name-self, path-self}
 use Rattle.lp_spec_design.proofs.Members.{in-flat, of-flat, of-map, of-some, of-numbered}
 use Rattle.lp_spec_design.proofs.Sources.{then_is, first_in}
 use Rattle.lp_spec_network.specs.Pairs.{pairs_of}
-use Rattle.lp_spec_fit.specs.Choice.{choice, is_mapped}
+use Rattle.lp_spec_fit.specs.Choice.{is_mapped}
 use Rattle.lp_spec_fit.specs.Fits.{fits_clamp, fits_shifter, fits_switch}
-use Rattle.lp_spec_fit.proofs.Chosen.{is_choice}
 use Rattle.lp_spec_realises.specs.Projects.{Project, network_of, functions_of, on_expression}
 use Rattle.lp_spec_realises.specs.ProjectNetlists.{are_apart}
 use Rattle.lp_spec_realises.specs.Operators.{OperatorAt, operators_of_bit, all_operators, chain_of, SwitchAt, switches_among, all_switches, placed_operator, placed_switch}
@@ -34,6 +33,7 @@ use Rattle.lp_spec_wired.specs.Contents.{IsWrittenAt}
 use Rattle.lp_spec_wired.specs.Names.{placement_of}
 use Rattle.lp_spec_written_at.specs.Sources.{IsFree, HasSwitchCells}
 use Rattle.lp_spec_written_at.proofs.Lists.{some-first, in-some, all-of}
+use Rattle.lp_spec_written_at.proofs.Usable.{fits-chosen}
 use Rattle.lp_spec_written_at.proofs.Paths.{some-is}
 use Rattle.lp_spec_written_at.proofs.Picked.{none-more, flat-same, filter-flat, filter-none}
 use Rattle.lp_spec_written_at.proofs.Instances.{IsStanding, is-standing}
@@ -173,14 +173,6 @@ module _ (p : Project) (l : Lists) where
       in-all b u z v = in-flat (operators_of_bit p) b z (boundary p.structure p.intent) u v
 
 -- ---- what is chosen fits
-
-pub fits-chosen : (t : CellView → Bool) (cells : List CellView) (c : CellView) → option_and_then (slice_get cells) (choice t cells) ≡ Some c → t c ≡ true
-fits-chosen t cells c e =
-    let found = then_is (slice_get cells) (choice t cells) c e in
-    let is = is_choice t cells found.0 found.1 in
-    let same : Some is.cell ≡ Some c = sym is.there ∙ found.2 in
-    let cell : is.cell ≡ c = cc in
-    ap t (sym cell) ∙ is.is_fit
 
 module _ (p : Project) (l : Lists) where
   clamp-chosen : (path : Path) (t : ℕ) (s q : Option SetOrigins) (r : Option Strategy) (c : CellView) → cell_numbered p (clamp_chosen p l path t s q r) ≡ Some c → clamp_fits s q r c ≡ true

@@ -118,7 +118,7 @@ module _ (p : Project) (a : Additions) (w : Structure) (f : IsFree p) (is : IsWr
     n = switch_name y.0
 
     cell-listed : IsIn y.1.cell s.cells
-    cell-listed = listed.switches y.1 (of-filter (λ (k : Switching). same_path k.path x) y.1 a.plan.switches (of-numbered 0 y (switches_in a.plan x) h)).0
+    cell-listed = (listed.switches y.1 (of-filter (λ (k : Switching). same_path k.path x) y.1 a.plan.switches (of-numbered 0 y (switches_in a.plan x) h)).0).listed
 
     not-of-source : first (λ (k : InstanceView). bytes_eq k.name n) m.instances ≡ None
     not-of-source =

@@ -1,30 +1,37 @@
 -- The statements of the laws of this crate (own rule).
-use Rattle.std.specs.Prelude.{codes, ◌≡◌, ◌≤◌, ℕ, slice_get, length, true, [], map, Some, None, is_some, IsTrue}
-use Rattle.std.specs.List.{list_all}
-use Rattle.lp_spec_design.specs.Netlists.{Structure, module_at}
+use Rattle.std.specs.Prelude.{codes, ◌≡◌, ◌≤◌, ℕ, slice_get, length, true, false, List, [], map, flat_map, Some, None, is_some, IsTrue}
+use Rattle.std.specs.List.{list_any, list_all}
+use Rattle.lp_spec_design.specs.Netlists.{Structure, module_named, module_at}
 use Rattle.lp_spec_realises.specs.Projects.{Project}
-use Rattle.lp_spec_realises.specs.ProjectNetlists.{are_apart, netlist_of, knows_its_targets, is_shallow, port_origins, has_origin}
+use Rattle.lp_spec_realises.specs.ProjectNetlists.{are_apart, netlist_of, has_single_source, knows_its_targets, names_in, has_names_apart, declares_its_bits, is_shallow, port_origins, has_origins_apart, has_origin, IsProjectNetlist}
+use Rattle.lp_spec_realises.specs.Controls.{control_node}
 use Rattle.lp_spec_realises.specs.Tops.{top_ports, has_port}
 use Rattle.lp_spec_realises.specs.Implements.{Lists, operator_as_chosen, switch_as_chosen, register_as_chosen, switch_chosen, as_chosen}
 use Rattle.lp_spec_realises.specs.Operators.{OperatorAt, SwitchAt, all_operators, all_switches, placed_operator, placed_switch}
-use Rattle.lp_spec_design.specs.Graph.{numbered}
+use Rattle.lp_spec_design.specs.Graph.{numbered, pin_node}
+use Rattle.lp_spec_design.specs.Settled.{node_at_pin}
 use Rattle.lp_spec_faults.specs.Lines.{first_of}
 use Rattle.lp_spec_faults.specs.Readings.{no_cell}
-use Rattle.lp_spec_realises.specs.Realises.{has_the_cells, same_paths, cell_of, operator_stands, switch_stands, source_cell_stands, has_placed, expected_cells, are_distinct}
-use Rattle.lp_spec_written.specs.Places.{Standing, Switching, plan, switches_in, cell_numbered, with_number}
-use Rattle.lp_spec_written.specs.Supplies.{cell_for, switch_of}
-use Rattle.lp_spec_design.specs.Instances.{Placed, cell_instances}
-use Rattle.lp_spec_design.specs.Keys.{Name, Path, Way}
+use Rattle.lp_spec_faults.specs.Modules.{names_of, is_reserved, all_instances, unfit_cell}
+use Rattle.lp_spec_fit.specs.Fits.{retention_pins}
+use Rattle.lp_spec_realises.specs.Realises.{control_of, has_the_cells, same_paths, cell_of, operator_stands, switch_stands, source_cell_stands, has_placed, expected_cells, are_distinct}
+use Rattle.lp_spec_written.specs.Places.{Standing, Kept, Switching, plan, switches_in, cell_numbered, with_number}
+use Rattle.lp_spec_written.specs.Supplies.{cell_for, switch_of, source_pins, kept_at, origin_bits}
+use Rattle.lp_spec_written.specs.Routes.{some_control_bits}
+use Rattle.lp_spec_design.specs.Instances.{Placed, module_instances, cell_instances}
+use Rattle.lp_spec_design.specs.Nodes.{nodes_of, has_wire_loop, DeclaresBits}
+use Rattle.lp_spec_design.specs.Keys.{Name, Path, Node, Way}
 use Rattle.lp_spec_design.specs.Winners.{IsIn}
-use Rattle.lp_spec_written.specs.Nets.{Linked, linked}
-use Rattle.lp_model.specs.NetlistView.{InstanceView, ModuleView}
-use Rattle.lp_model.specs.LibraryView.{CellView}
-use Rattle.lp_spec_written.specs.Written.{Additions, additions, named_operators, written_instances, written}
+use Rattle.lp_spec_written.specs.Nets.{Linked, stretches, linked}
+use Rattle.lp_model.specs.NetlistView.{ConnectionView, ConnectionsView, InstanceView, ModuleView}
+use Rattle.lp_model.specs.LibraryView.{PinView, CellView}
+use Rattle.lp_spec_written.specs.Written.{Additions, additions, named_operators, written_operator, written_switch, written_instances, written_module, written}
 use Rattle.lp_spec_hub.specs.Spots.{on_way}
 use Rattle.lp_spec_hub.specs.Entries.{HasWaysApart, HasItsCells}
 use Rattle.lp_spec_wired.specs.Contents.{IsWrittenAt}
-use Rattle.lp_spec_wired.specs.Names.{placement_of}
-use Rattle.lp_spec_written_at.specs.Sources.{IsFree, IsReached, HasSwitchCells, HasRegisterCells}
+use Rattle.lp_spec_wired.specs.Laws.{HasSupplyNames}
+use Rattle.lp_spec_wired.specs.Names.{name_of_node, placement_of}
+use Rattle.lp_spec_written_at.specs.Sources.{takes_own_name, has_own_target, IsFree, IsReached, HasSwitchCells, HasRegisterCells, HasOriginNames, HasFewAdditions, IsNetBit, HasControls, node_of_bits, connections_of, cell_names, HasFreePins}
 
 -- the netlist that is written has at each path the written module of that path
 abbrev pub WrittenAtItsPaths : Type 0
@@ -261,3 +268,203 @@ InstanceNamesDiffer =
     → length (linked p (additions p l).chains x) ≤ 1000000000
     → length (switches_in (plan p l) x) ≤ 1000000000
     → are_apart (map (λ (y : InstanceView). y.name) (written_instances p (additions p l) x m)) ≡ true
+
+-- where no instance is of an unfit cell (F61), the names of cells that are instantiated are free: modules do not begin as the added ones, and cells that can be used do not
+abbrev pub TargetsAreFree : Type 0
+TargetsAreFree =
+    (s : Structure)
+    → list_any (is_reserved s) (flat_map names_of s.modules) ≡ false
+    → list_any takes_own_name s.cells ≡ false
+    → knows_its_targets s ≡ true
+    → first_of (unfit_cell s) ≡ None
+    → list_any has_own_target (all_instances s) ≡ false
+
+-- supply ports have names of their own, and switches have numbers of their own
+abbrev pub SupplyNamesDiffer : Type 0
+SupplyNamesDiffer = (p : Project) (l : Lists) → HasOriginNames p → HasFewAdditions p l → HasSupplyNames p (additions p l)
+
+-- the names of supply ports are apart, and none is that of a port of the source
+abbrev pub OriginsAreApart : Type 0
+OriginsAreApart = (p : Project) → IsFree p → HasOriginNames p → IsTrue (has_origins_apart p)
+
+-- the ports, nets and instances of a module that is written have names apart, all together
+abbrev pub PartNamesDiffer : Type 0
+PartNamesDiffer =
+    (p : Project) (l : Lists)
+    → IsFree p
+    → HasOriginNames p
+    → HasFewAdditions p l
+    → (x : Path) (m : ModuleView)
+    → module_at p.structure x ≡ Some m
+    → are_apart (names_in (written_module p (additions p l) x m)) ≡ true
+
+-- so no name stands twice in the written netlist
+abbrev pub WrittenNamesDiffer : Type 0
+WrittenNamesDiffer = (p : Project) (l : Lists) → IsFree p → HasOriginNames p → HasFewAdditions p l → IsTrue (has_names_apart (written p l))
+
+-- each bit that a module of that content joins is declared there
+abbrev pub DeclaresItsBits : Type 0
+DeclaresItsBits =
+    (p : Project) (l : Lists) (w : Structure)
+    → IsFree p
+    → DeclaresBits p.structure
+    → HasControls p
+    → IsWrittenAt p (additions p l) w
+    → DeclaresBits w
+
+-- which is the test of project netlists
+abbrev pub DeclaresByTest : Type 0
+DeclaresByTest =
+    (w : Structure)
+    → DeclaresBits w
+    → IsTrue (list_all (λ path. declares_its_bits path (module_at w path)) (module_instances w))
+
+-- the source is ready: it has a top, it declares its bits and the controls, its names are free, supply ports have names, and what is added is not too much
+pub record IsReady (p : Project) (l : Lists) : Type 0 where
+  pub free : IsFree p
+  pub top : is_some (module_at p.structure []) ≡ true
+  pub bits : DeclaresBits p.structure
+  pub controls : HasControls p
+  pub names : HasOriginNames p
+  pub few : HasFewAdditions p l
+
+-- no net bit of a netlist is driven twice, and no wire comes back to itself
+pub record IsDrivenOnce (w : Structure) : Type 0 where
+  pub one_source : IsTrue (list_all (has_single_source w) (nodes_of w))
+  pub no_loop : has_wire_loop w ≡ false
+
+-- modules of the written content whose names are apart, and each of which is that of an instance, are a netlist of the project, where no net bit is driven twice and no wire comes back to itself
+abbrev pub ContentIsProjectNetlist : Type 0
+ContentIsProjectNetlist =
+    (p : Project) (l : Lists) (modules : List ModuleView)
+    → IsReady p l
+    → IsWrittenAt p (additions p l) (netlist_of p modules)
+    → IsReached (netlist_of p modules)
+    → IsTrue (has_names_apart modules)
+    → IsDrivenOnce (netlist_of p modules)
+    → IsProjectNetlist p modules
+
+-- so the written netlist is one
+abbrev pub WrittenIsProjectNetlist : Type 0
+WrittenIsProjectNetlist = (p : Project) (l : Lists) → IsReady p l → IsDrivenOnce (netlist_of p (written p l)) → IsProjectNetlist p (written p l)
+
+-- ---- pins
+
+-- a pin of an instance of that content is connected as it is written
+abbrev pub PinsAreWritten : Type 0
+PinsAreWritten =
+    (p : Project) (l : Lists) (w : Structure)
+    → IsFree p
+    → HasFewAdditions p l
+    → IsWrittenAt p (additions p l) w
+    → (x : Path) (m : ModuleView)
+    → module_at p.structure x ≡ Some m
+    → (y : InstanceView)
+    → IsIn y (written_instances p (additions p l) x m)
+    → (q : Name)
+    → node_at_pin w x y.name q ≡ pin_node x q y.connections
+
+-- where no two connections have one name, each gives its pin its first bit
+abbrev pub ConnectionsAreRead : Type 0
+ConnectionsAreRead =
+    (x : Path) (cs : ConnectionsView)
+    → are_apart (map (λ (c : ConnectionView). c.port) (connections_of cs)) ≡ true
+    → (c : ConnectionView)
+    → IsIn c (connections_of cs)
+    → pin_node x c.port cs ≡ node_of_bits x c.bits
+
+-- so each connection of an operator, whose cell has no two pins of one name, gives its pin its first bit
+abbrev pub OperatorPinsAreRead : Type 0
+OperatorPinsAreRead =
+    (p : Project) (l : Lists) (w : Structure)
+    → IsFree p
+    → HasFewAdditions p l
+    → IsWrittenAt p (additions p l) w
+    → (x : Path) (m : ModuleView)
+    → module_at p.structure x ≡ Some m
+    → (y : Name × Linked)
+    → IsIn y (named_operators (linked p (additions p l).chains x))
+    → are_apart (cell_names y.1.0.cell) ≡ true
+    → (c : ConnectionView)
+    → IsIn c (connections_of (written_operator p (additions p l) x y).connections)
+    → node_at_pin w x y.0 c.port ≡ node_of_bits x c.bits
+
+-- and each connection of a switch
+abbrev pub SwitchPinsAreRead : Type 0
+SwitchPinsAreRead =
+    (p : Project) (l : Lists) (w : Structure)
+    → IsFree p
+    → HasFewAdditions p l
+    → IsWrittenAt p (additions p l) w
+    → (x : Path) (m : ModuleView)
+    → module_at p.structure x ≡ Some m
+    → (y : ℕ × Switching)
+    → IsIn y (numbered 0 (switches_in (plan p l) x))
+    → are_apart (cell_names y.1.cell) ≡ true
+    → (c : ConnectionView)
+    → IsIn c (connections_of (written_switch p (additions p l) x y).connections)
+    → node_at_pin w x (with_number (codes "lp_s_") y.0) c.port ≡ node_of_bits x c.bits
+
+-- a pin of a cell instance of the source that is connected stays connected to the net bit, by the name that it has there
+abbrev pub SourcePinsAreKept : Type 0
+SourcePinsAreKept =
+    (p : Project) (l : Lists) (w : Structure)
+    → IsFree p
+    → HasFewAdditions p l
+    → IsWrittenAt p (additions p l) w
+    → (x : Path) (m : ModuleView)
+    → module_at p.structure x ≡ Some m
+    → (y : InstanceView)
+    → IsIn y m.instances
+    → module_named p.structure y.target ≡ None
+    → (q : Name) (k : Node)
+    → node_at_pin p.structure x y.name q ≡ Some k
+    → node_at_pin w x y.name q ≡ Some (name_of_node (stretches p (plan p l)) k)
+
+-- each power and ground pin of a cell instance of the source is connected to the net of the origin to which it is joined
+abbrev pub SourceSuppliesAreRead : Type 0
+SourceSuppliesAreRead =
+    (p : Project) (l : Lists) (w : Structure)
+    → IsFree p
+    → HasFewAdditions p l
+    → IsWrittenAt p (additions p l) w
+    → (x : Path) (m : ModuleView)
+    → module_at p.structure x ≡ Some m
+    → (y : InstanceView)
+    → IsIn y m.instances
+    → module_named p.structure y.target ≡ None
+    → (c : CellView)
+    → HasFreePins p l x y c
+    → (q : Name × ℕ)
+    → IsIn q (source_pins p (plan p l) (record { path = x; instance = y.name }))
+    → node_at_pin w x y.name q.0 ≡ node_of_bits x (origin_bits p (plan p l) q.1)
+
+-- and each retention pin of a register with retention to the net of its control
+abbrev pub RetentionPinsAreRead : Type 0
+RetentionPinsAreRead =
+    (p : Project) (l : Lists) (w : Structure)
+    → IsFree p
+    → HasFewAdditions p l
+    → IsWrittenAt p (additions p l) w
+    → (x : Path) (m : ModuleView)
+    → module_at p.structure x ≡ Some m
+    → (y : InstanceView)
+    → IsIn y m.instances
+    → module_named p.structure y.target ≡ None
+    → (c : CellView)
+    → HasFreePins p l x y c
+    → (k : Kept)
+    → kept_at (plan p l) (record { path = x; instance = y.name }) ≡ Some k
+    → (q : PinView)
+    → IsIn q (retention_pins c)
+    → node_at_pin w x y.name q.name ≡ node_of_bits x (some_control_bits (additions p l).chains (additions p l).controls x (control_of k.strategy q.use_of))
+
+-- ---- controls
+
+-- what a control name gives is a net bit that its instance declares
+abbrev pub ControlNamesAreNetBits : Type 0
+ControlNamesAreNetBits = (s : Structure) (x : Path) (text : Name) (k : Node) → control_node s x text ≡ Some k → IsNetBit s k
+
+-- and so is the control of each switch, or a constant
+abbrev pub SwitchControlsAreNetBits : Type 0
+SwitchControlsAreNetBits = (p : Project) (x : SwitchAt) → IsIn x (all_switches p) → IsNetBit p.structure x.control

@@ -1,5 +1,5 @@
 //! Laws about the modules of the written netlist by their paths: each is the clause of a function that does nothing.
-ghost use Rattle.lp_spec_written_at.specs.Laws.{ExpectedCellsDiffer, HasAllItsCells, HasItsInstances, HasItsOrigins, HasItsPorts, HasNoOtherCells, HasOperatorCells, HasSourceCells, InstanceNamesDiffer, IsAsChosen, IsShallow, KnowsTargets, ModuleNamesDiffer, NoneLacks, OperatorsComeFromPlan, OperatorsDiffer, OperatorsStand, PlacesOperators, PlacesSwitches, SourceCellsDiffer, SourceCellsStand, SwitchesComeFromPlan, SwitchesDiffer, SwitchesStand, WrittenAreReached, WrittenAtItsPaths};
+ghost use Rattle.lp_spec_written_at.specs.Laws.{ConnectionsAreRead, ContentIsProjectNetlist, ControlNamesAreNetBits, DeclaresByTest, DeclaresItsBits, ExpectedCellsDiffer, HasAllItsCells, HasItsInstances, HasItsOrigins, HasItsPorts, HasNoOtherCells, HasOperatorCells, HasSourceCells, InstanceNamesDiffer, IsAsChosen, IsShallow, KnowsTargets, ModuleNamesDiffer, NoneLacks, OperatorPinsAreRead, OperatorsComeFromPlan, OperatorsDiffer, OperatorsStand, OriginsAreApart, PartNamesDiffer, PinsAreWritten, PlacesOperators, PlacesSwitches, RetentionPinsAreRead, SourceCellsDiffer, SourceCellsStand, SourcePinsAreKept, SourceSuppliesAreRead, SupplyNamesDiffer, SwitchControlsAreNetBits, SwitchPinsAreRead, SwitchesComeFromPlan, SwitchesDiffer, SwitchesStand, TargetsAreFree, WrittenAreReached, WrittenAtItsPaths, WrittenIsProjectNetlist, WrittenNamesDiffer};
 
 /// The written netlist has at each path of the source the written module of that path, and no other paths.
 pub fn written_is_written_at()
@@ -129,4 +129,94 @@ pub fn written_module_names_differ()
 /// No two instances in a module that is written have one name.
 pub fn written_instance_names_differ()
     ensures { InstanceNamesDiffer }
+{}
+
+/// Where no instance is of an unfit cell, no target begins as the added names.
+pub fn fit_targets_are_free()
+    ensures { TargetsAreFree }
+{}
+
+/// Supply ports have names of their own, and switches have numbers of their own.
+pub fn supply_names_differ()
+    ensures { SupplyNamesDiffer }
+{}
+
+/// The names of supply ports are apart, and none is that of a port of the source.
+pub fn origins_are_apart()
+    ensures { OriginsAreApart }
+{}
+
+/// The ports, nets and instances of a written module have names apart, all together.
+pub fn written_part_names_differ()
+    ensures { PartNamesDiffer }
+{}
+
+/// No name stands twice in the written netlist.
+pub fn written_names_differ()
+    ensures { WrittenNamesDiffer }
+{}
+
+/// Each bit that a module of that content joins is declared there.
+pub fn content_declares_its_bits()
+    ensures { DeclaresItsBits }
+{}
+
+/// A netlist that declares its bits passes the test of project netlists.
+pub fn declared_bits_pass_the_test()
+    ensures { DeclaresByTest }
+{}
+
+/// Modules of the written content are a netlist of the project, where no net bit is driven twice and no wire comes back to itself.
+pub fn content_is_a_project_netlist()
+    ensures { ContentIsProjectNetlist }
+{}
+
+/// So is the written netlist.
+pub fn written_is_a_project_netlist()
+    ensures { WrittenIsProjectNetlist }
+{}
+
+/// A pin of an instance of that content is connected as it is written.
+pub fn pins_are_written()
+    ensures { PinsAreWritten }
+{}
+
+/// Where no two connections have one name, each gives its pin its first bit.
+pub fn connections_are_read()
+    ensures { ConnectionsAreRead }
+{}
+
+/// So does each connection of an operator, whose cell has no two pins of one name.
+pub fn operator_pins_are_read()
+    ensures { OperatorPinsAreRead }
+{}
+
+/// And each connection of a switch.
+pub fn switch_pins_are_read()
+    ensures { SwitchPinsAreRead }
+{}
+
+/// A pin of a cell instance of the source that is connected stays connected to the net bit, by the name that it has there.
+pub fn source_pins_are_kept()
+    ensures { SourcePinsAreKept }
+{}
+
+/// Each power and ground pin of a cell instance of the source is connected to the net of the origin to which it is joined.
+pub fn source_supplies_are_read()
+    ensures { SourceSuppliesAreRead }
+{}
+
+/// Each retention pin of a register with retention is connected to the net of its control.
+pub fn retention_pins_are_read()
+    ensures { RetentionPinsAreRead }
+{}
+
+/// What a control name gives is a net bit that its instance declares.
+pub fn control_names_are_net_bits()
+    ensures { ControlNamesAreNetBits }
+{}
+
+/// So is the control of each switch, or a constant.
+pub fn switch_controls_are_net_bits()
+    ensures { SwitchControlsAreNetBits }
 {}
