@@ -1,0 +1,5 @@
+pub mod Depths
+pub mod Found
+pub mod Loops
+pub mod Whole
+mod Computed

@@ -1,0 +1,6 @@
+pub mod Indices
+pub mod Few
+pub mod Free
+pub mod JoinedOrigins
+pub mod Supplied
+pub mod Joined

@@ -1,0 +1,10 @@
+//! The netlist that an insertion writes implements its project and shows what the source shows: the laws of insertion
+//! joined, with what is still to be shown of its wires as the fields of one record. Definitions and laws alone.
+#![tactic(auto)]
+
+mod laws;
+
+pub use laws::{
+    content_implements, content_keeps_indices, content_shows_the_same, realised_is_supplied,
+    shared_has_content, shared_implements, written_has_content, written_implements,
+};
