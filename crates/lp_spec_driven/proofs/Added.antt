@@ -25,7 +25,7 @@ use Rattle.lp_spec_written.specs.Routes.{Part, Kind, PortOut, Between, PortIn, s
 use Rattle.lp_spec_written.specs.Written.{Additions, added_supply_ports, written_instance}
 use Rattle.lp_spec_hub.specs.Spots.{OfNode, Routed, Carried, BySwitch, FromSpot}
 use Rattle.lp_spec_hub.specs.Drives.{toward, part_at, part_from, own_instance, switch_from, has_switch, drive_switch, drive_origin}
-use Rattle.lp_spec_driven.proofs.Above.{paths-differ, above-self, above-step, above-trans, above-length, above-both, above-parent, above-less, above-line, above-from, above-level, split-last, toward-is}
+use Rattle.lp_spec_hub.proofs.Paths.{paths-differ, above-self, above-step, above-trans, above-length, above-both, above-parent, above-less, above-line, above-from, above-level, split-last, toward-is}
 use Rattle.lp_spec_wired.specs.Contents.{IsInstance, IsWrittenAt}
 use Rattle.lp_spec_wired.specs.Names.{name_by}
 use Rattle.lp_spec_wired.proofs.Lists.{at-numbered, in-some, bits-behind, bits-there}

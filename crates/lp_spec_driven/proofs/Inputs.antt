@@ -25,7 +25,7 @@ use Rattle.lp_spec_written.specs.Routes.{Part, Kind, PortOut, Between, PortIn, h
 use Rattle.lp_spec_written.specs.Written.{Additions, added_supply_ports, written_module}
 use Rattle.lp_spec_hub.specs.Spots.{Spot, OfNode, Before, Carried, Routed, on_way, is_behind}
 use Rattle.lp_spec_hub.specs.Drives.{own_instance, part_at}
-use Rattle.lp_spec_driven.proofs.Above.{top-above}
+use Rattle.lp_spec_hub.proofs.Paths.{top-above}
 use Rattle.lp_spec_wired.specs.Contents.{IsContent, IsWrittenAt}
 use Rattle.lp_spec_wired.specs.Names.{is_stretch, node_at, place_on, name_at, name_on, name_before, name_by}
 use Rattle.lp_spec_wired.specs.Laws.{StandsFor, IsOnlyInput, IsOneWay}

@@ -1,4 +1,3 @@
-mod Above
 mod Added
 mod AddedAssigns
 mod Assigns

@@ -24,7 +24,7 @@ use Rattle.lp_spec_written.specs.Routes.{control_bits}
 use Rattle.lp_spec_written.specs.Written.{Additions, at_pin, written_switch, written_switches, written_operators}
 use Rattle.lp_spec_hub.specs.Spots.{Carried, BySwitch, FromSpot}
 use Rattle.lp_spec_hub.specs.Drives.{switch_from, has_switch, drive_switch, drive_origin, toward}
-use Rattle.lp_spec_driven.proofs.Above.{above-self, above-both}
+use Rattle.lp_spec_hub.proofs.Paths.{above-self, above-both}
 use Rattle.lp_spec_realises.specs.Implements.{parent_of}
 use Rattle.lp_spec_wired.specs.Contents.{IsInstance, IsWrittenAt}
 use Rattle.lp_spec_wired.specs.Names.{name_by, switch_in, switch_at, placement_by}

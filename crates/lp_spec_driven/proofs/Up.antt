@@ -30,7 +30,7 @@ use Rattle.lp_spec_design.specs.Reads.{node-self}
 use Rattle.lp_spec_design.specs.Registers.{is_above}
 use Rattle.lp_spec_hub.specs.Drives.{part_at, own_instance}
 use Rattle.lp_spec_driven.proofs.Parts.{one-place, is-made, has-it, Net, net-of}
-use Rattle.lp_spec_driven.proofs.Above.{above-parent}
+use Rattle.lp_spec_hub.proofs.Paths.{above-parent}
 use Rattle.lp_spec_driven.specs.Sound.{IsProper}
 use Rattle.lp_spec_driven.specs.Laws.{SuppliesGoUp, ControlsGoUp}
 use Rattle.lp_spec_driven.proofs.Added as added

@@ -11,7 +11,7 @@ mod Keeping
 mod ModuleNames
 mod Near
 mod Orderly
-mod Paths
+pub mod Paths
 mod Readers
 mod Routed
 mod Routes

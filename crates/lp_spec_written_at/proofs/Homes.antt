@@ -10,7 +10,8 @@ use Rattle.lp_spec_design.proofs.Members.{of-any}
 use Rattle.lp_spec_written.specs.Places.{Switching}
 use Rattle.lp_spec_written.specs.Supplies.{Use, is_used, common, common_of, home, has_port_of, goes_out, goes_in}
 use Rattle.lp_spec_hub.specs.Drives.{has_switch}
-use Rattle.lp_spec_written_at.proofs.Above.{or-left, or-right, or-either, not-same, above-self, above-trans, above-parent, above-less, above-both, above-line, common-left, common-right}
+use Rattle.lp_spec_hub.proofs.Paths.{not-same, above-self, above-trans, above-parent, above-less, above-both, above-line, common-left, common-right}
+use Rattle.lp_spec_written_at.proofs.Either.{or-left, or-right, or-either}
 
 -- ---- users
 

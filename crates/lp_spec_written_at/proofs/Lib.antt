@@ -25,7 +25,7 @@ pub mod ModuleNames
 pub mod InstanceNames
 pub mod Targets
 pub mod Wiring
-pub mod Above
+pub mod Either
 pub mod Weave
 pub mod Homes
 pub mod SupplyNames
