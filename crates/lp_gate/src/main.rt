@@ -114,31 +114,84 @@ fn stored<S: Shelf>(alloc: Global, shelf: &mut S, name: &str) -> Vec<u8> {
     }
 }
 
+/// Writes bytes and gives whether it was done, and how the file then is against others.
+fn written<S: Shelf>(
+    alloc: Global,
+    shelf: &mut S,
+    bytes: &[u8],
+    expected: &[u8],
+) -> (bool, &'static str) {
+    let done = shelf.write("many", bytes).is_ok();
+    (done, compare(alloc, shelf, "many", expected))
+}
+
+/// Writes many bytes, and then few over them.
+fn try_writes<R: Print, S: Shelf>(rt: &R, alloc: Global, shelf: &mut S) -> io::Result<()> {
+    let many = many_bytes(alloc)?;
+    let whole = written(alloc, shelf, &many, &many);
+    drop(many);
+    rt.println(whole.0)?;
+    rt.println(whole.1)?;
+    let few = written(alloc, shelf, b"few", b"few");
+    rt.println(few.0)?;
+    rt.println(few.1)
+}
+
+/// Writes a netlist behind blanks, and gives whether it was done.
+fn write_behind<S: Shelf>(alloc: Global, shelf: &mut S, netlist: &[u8]) -> io::Result<bool> {
+    let long = behind_blanks(alloc, netlist)?;
+    let done = shelf.write("long.v", &long).is_ok();
+    drop(long);
+    Ok(done)
+}
+
+/// Writes the stored netlist behind blanks.
+fn write_long<S: Shelf>(alloc: Global, shelf: &mut S) -> io::Result<bool> {
+    let netlist = stored(alloc, shelf, "block.v");
+    let done = write_behind(alloc, shelf, &netlist);
+    drop(netlist);
+    done
+}
+
 /// Writes, reads and says.
 fn try_files<R: Print, S: Shelf>(rt: &R, alloc: Global, shelf: &mut S) -> io::Result<()> {
-    let many = many_bytes(alloc)?;
-    rt.println(shelf.write("many", &many).is_ok())?;
-    rt.println(compare(alloc, shelf, "many", &many))?;
-    rt.println(shelf.write("many", b"few").is_ok())?;
-    rt.println(compare(alloc, shelf, "many", b"few"))?;
+    try_writes(rt, alloc, shelf)?;
     rt.println(compare(alloc, shelf, "missing", b""))?;
     rt.println(shelf.say(b"a line\n").is_ok())?;
-    let long = behind_blanks(alloc, &stored(alloc, shelf, "block.v"))?;
-    rt.println(shelf.write("long.v", &long).is_ok())
+    rt.println(write_long(alloc, shelf)?)
+}
+
+/// The status with which a command ends.
+fn ended<S: Shelf>(alloc: Global, shelf: &mut S, command: &str) -> io::Result<u8> {
+    let words = words_of(alloc, command)?;
+    let outcome = run(alloc, &words, shelf);
+    let status = status(&outcome);
+    drop(outcome);
+    drop(words);
+    Ok(status)
+}
+
+/// How a file is against another one.
+fn compare_files<S: Shelf>(
+    alloc: Global,
+    shelf: &mut S,
+    name: &str,
+    expected: &str,
+) -> &'static str {
+    let bytes = stored(alloc, shelf, expected);
+    let result = compare(alloc, shelf, name, &bytes);
+    drop(bytes);
+    result
 }
 
 /// Runs each command, which says its own line, and prints its status and what it wrote.
 fn try_runs<R: Print, S: Shelf>(rt: &R, alloc: Global, shelf: &mut S) -> io::Result<()> {
-    let netlist = stored(alloc, shelf, "expected.v");
-    for (command, out) in RUNS {
-        let words = words_of(alloc, command)?;
-        let outcome = run(alloc, &words, shelf);
-        rt.println(status(&outcome))?;
-        rt.println(compare(alloc, shelf, out, &netlist))?;
+    for (command, out) in &RUNS {
+        rt.println(ended(alloc, shelf, command)?)?;
+        rt.println(compare_files(alloc, shelf, out, "expected.v"))?;
     }
-    let report = stored(alloc, shelf, "expected.txt");
-    rt.println(compare(alloc, shelf, "whole.txt", &report))?;
-    rt.println(compare(alloc, shelf, "long.txt", &report))
+    rt.println(compare_files(alloc, shelf, "whole.txt", "expected.txt"))?;
+    rt.println(compare_files(alloc, shelf, "long.txt", "expected.txt"))
 }
 
 fn main(rt: HostRuntime) -> io::Result<()> {
