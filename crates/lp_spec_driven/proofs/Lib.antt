@@ -1,22 +1,22 @@
-mod Added
-mod AddedAssigns
-mod Assigns
-mod Begun
-mod Come
-mod Edges
-mod Given
-mod Have
-mod Inputs
-mod Linked
-mod Made
-mod Operators
-mod Outer
-mod Outputs
-mod Parts
-mod Short
-mod SourceCells
-mod Sources
-mod Stand
-mod Switches
-mod Up
-mod WiresApart
+pub mod Added
+pub mod AddedAssigns
+pub mod Assigns
+pub mod Begun
+pub mod Come
+pub mod Edges
+pub mod Given
+pub mod Have
+pub mod Inputs
+pub mod Linked
+pub mod Made
+pub mod Operators
+pub mod Outer
+pub mod Outputs
+pub mod Parts
+pub mod Short
+pub mod SourceCells
+pub mod Sources
+pub mod Stand
+pub mod Switches
+pub mod Up
+pub mod WiresApart

@@ -132,10 +132,10 @@ module _ (made : List Part) (k : Node) (x : Path) where
       by y h true is = absurd (both_ways (has_part made (part_at k x Between)) none (made-part Between y h (part-kind Between y is).0 (part-kind Between y is).1))
 
   -- the net of the control, with the number of its part
-  record IsCarried (kind : Kind) : Type 0 where
-    number : ℕ
-    bits : carried here k ≡ NetBit (control_net number) ∷ []
-    name : name_of_part (part_at k x kind) (first (λ y. same_part (part_at k x kind) y.1) here) ≡ Inner (control_net number) None x
+  pub record IsCarried (kind : Kind) : Type 0 where
+    pub number : ℕ
+    pub bits : carried here k ≡ NetBit (control_net number) ∷ []
+    pub name : name_of_part (part_at k x kind) (first (λ y. same_part (part_at k x kind) y.1) here) ≡ Inner (control_net number) None x
 
   by-wire : has_part made (part_at k x Between) ≡ true → IsCarried Between
   by-wire h =
@@ -186,7 +186,7 @@ module _ (made : List Part) (k : Node) (x : Path) where
   not-in Between h = inl refl
   not-in PortIn h = absurd (h refl)
 
-  carried-as : (has_part made (part_at k x Between) || (has_part made (part_at k x PortOut) || has_part made (part_at k x PortIn))) ≡ true → IsOneWay made k x → (kind : Kind) × (part_in made k x ≡ part_at k x kind) × IsCarried kind
+  pub carried-as : (has_part made (part_at k x Between) || (has_part made (part_at k x PortOut) || has_part made (part_at k x PortIn))) ≡ true → IsOneWay made k x → (kind : Kind) × (part_in made k x ≡ part_at k x kind) × IsCarried kind
   carried-as come oneway = by (has_part made (part_at k x Between)) (has_part made (part_at k x PortOut)) refl refl come
     where
       by : (s r : Bool) → has_part made (part_at k x Between) ≡ s → has_part made (part_at k x PortOut) ≡ r → (s || (r || has_part made (part_at k x PortIn))) ≡ true → (kind : Kind) × (part_in made k x ≡ part_at k x kind) × IsCarried kind

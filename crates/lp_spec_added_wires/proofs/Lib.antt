@@ -1,0 +1,14 @@
+pub mod Places
+pub mod Homes
+pub mod SupplyWires
+pub mod ControlWires
+pub mod Kept
+pub mod Ranks
+pub mod NodeSteps
+pub mod SupplySteps
+pub mod PartSteps
+pub mod Closed
+pub mod Beginnings
+pub mod Back
+pub mod WireRests
+pub mod NoLoop

@@ -1,0 +1,11 @@
+pub mod AllWires
+pub mod Flow
+pub mod Inputs
+pub mod Items
+pub mod Lists
+pub mod Nodes
+pub mod Outputs
+pub mod Ports
+pub mod Readings
+pub mod WaysIn
+pub mod Wires
