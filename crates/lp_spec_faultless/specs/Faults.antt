@@ -1,6 +1,6 @@
 -- A project of which no line of the table of faults holds, and what readers give of a project whatever its faults are (own rule; IEEE 1801-2015 set_isolation and create_power_switch for controls).
 use Rattle.std.specs.Prelude.{◌≡◌, ℕ, ◌+◌, Bool, true, false, length, Some, None, slice_get, IsTrue}
-use Rattle.lp_model.specs.NetlistView.{BitView, ModuleView}
+use Rattle.lp_model.specs.NetlistView.{BitView, AssignView, ModuleView}
 use Rattle.lp_model.specs.LibraryView.{CellView}
 use Rattle.lp_rows.specs.Network.{IsNetwork}
 use Rattle.lp_spec_design.specs.Keys.{Path, Node, Inner, Outer, Fixed}
@@ -32,10 +32,11 @@ pub record HasControlsInside (p : Project) : Type 0 where
 
 -- ---- what readers give
 
--- of netlists: no name is declared twice (F12), and what is joined is declared, else by its use
+-- of netlists: no name is declared twice (F12), and what is joined or assigned is declared, else by its use
 pub record IsReadNetlist (s : Structure) : Type 0 where
   pub names_apart : IsTrue (has_names_apart s.modules)
   pub declared : (q : Path) (m : ModuleView) (b : BitView) → module_at s q ≡ Some m → IsIn b (joined_bits m) → IsDeclared q m b
+  pub assigned : (q : Path) (m : ModuleView) (a : AssignView) (b : BitView) → module_at s q ≡ Some m → IsIn a m.assigns → IsIn b a.right → IsDeclared q m b
 
 pub record IsRead (p : Project) : Type 0 where
   pub netlist : IsReadNetlist p.structure

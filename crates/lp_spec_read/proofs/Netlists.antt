@@ -1,4 +1,4 @@
--- A netlist that is read has its names apart, and what it joins is declared.
+-- A netlist that is read has its names apart, and what it joins and assigns is declared.
 use Rattle.std.specs.Prelude.{cond, flat_map, if◌then◌else◌, nat_le}
 use Rattle.std.specs.List.{list_all}
 use Rattle.std.proofs.Common.{◌≡◌, ◌≤◌, ◌<◌, ◌+◌, ◌-◌, ◌⊎◌, ◌&&◌, ℕ, zero, suc, Bool, true, false, List, [], ◌∷◌, ◌++◌, map, Option, Some, None, inl, inr, refl, sym, ap, ◌∙◌, subst, arith}
@@ -137,6 +137,20 @@ assigned_bit nets a b e h =
     let right = and_parts (is_filled a.right) _ left.1 in
     all_in (is_bit nets) b a.left (and_parts (list_all (is_bit nets) a.left) _ right.1).0 h
 
+taken_bit : (nets : List (Name × Option BitRange)) (a : AssignView) (b : BitView) → is_assign nets a ≡ true → IsIn b a.right → is_bit nets b ≡ true
+taken_bit nets a b e h =
+    let left = and_parts (is_filled a.left) _ e in
+    let right = and_parts (is_filled a.right) _ left.1 in
+    let bits = and_parts (list_all (is_bit nets) a.left) _ right.1 in
+    all_in (is_bit nets) b a.right (and_parts (list_all (is_bit nets) a.right) _ bits.1).0 h
+
+its_assigns : (m : ModuleView) → is_read_module m ≡ true → list_all (is_assign (declared m)) m.assigns ≡ true
+its_assigns m e =
+    let name = and_parts (is_name m.name) _ e in
+    let nets = and_parts (list_all is_net (declared m)) _ name.1 in
+    let names = and_parts (distinct (names_of m)) _ nets.1 in
+    (and_parts (list_all (is_read_instance (declared m)) m.instances) (list_all (is_assign (declared m)) m.assigns) names.1).1
+
 joined_bit : (m : ModuleView) (b : BitView) → is_read_module m ≡ true → IsIn b (joined_bits m) → is_bit (declared m) b ≡ true
 joined_bit m b e h =
     let name = and_parts (is_name m.name) _ e in
@@ -188,6 +202,9 @@ module _ (s : Structure) (read : is_read s.modules ≡ true) where
   all_declared = record {
     names_apart = apart;
     declared = λ q m b e h. bit_declared q m b (joined_bit m b (all_in is_read_module m s.modules parts.1 (module_in s apart q m e)) h);
+    assigned = λ q m a b e h g.
+        bit_declared q m b
+        (taken_bit (declared m) a b (all_in (is_assign (declared m)) a m.assigns (its_assigns m (all_in is_read_module m s.modules parts.1 (module_in s apart q m e))) h) g);
   }
 
 pub netlists_declare : ReadNetlistsDeclareTheirBits

@@ -10,7 +10,7 @@ use Rattle.lp_spec_realises.specs.ProjectNetlists.{are_apart}
 use Rattle.lp_spec_agreement.specs.Faultless.{IsSoundCell}
 use Rattle.lp_spec_faultless.specs.Faults.{IsReadNetlist}
 
--- a netlist that a text denotes has its names apart and declares what it joins, over whatever cells
+-- a netlist that a text denotes has its names apart and declares what it joins and assigns, over whatever cells
 abbrev pub ReadNetlistsDeclareTheirBits : Type 0
 ReadNetlistsDeclareTheirBits = (text : List ℕ) (s : Structure) → Reads text s.modules → IsReadNetlist s
 

@@ -1,7 +1,7 @@
 //! Laws about what readers give: each is the clause of a function that does nothing.
 ghost use Rattle.lp_spec_read.specs.Laws.{ReadCellNamesDiffer, ReadCellsHaveSoundPins, ReadNetlistsDeclareTheirBits};
 
-/// A netlist that a text denotes has its names apart and declares what it joins.
+/// A netlist that a text denotes has its names apart and declares what it joins and assigns.
 pub fn read_netlists_declare_their_bits()
     ensures { ReadNetlistsDeclareTheirBits }
 {}

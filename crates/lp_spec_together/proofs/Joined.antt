@@ -25,10 +25,11 @@ use Rattle.lp_spec_written_at.proofs.Paths.{same-module-paths}
 use Rattle.lp_spec_written_at.proofs.CellsApart.{cells-whole}
 use Rattle.lp_spec_written_at.proofs.Chosen.{is-as-chosen}
 use Rattle.lp_spec_shared.proofs.Written.{shared-at, shared-reached, shared-apart}
-use Rattle.lp_spec_together.specs.Missing.{IsInsertable, IsWithinLimits, HasWrittenContent, IsWired}
+use Rattle.lp_spec_proper.specs.Insertable.{IsInsertable, IsWithinLimits}
+use Rattle.lp_spec_together.specs.Missing.{HasWrittenContent, IsWired}
 use Rattle.lp_spec_together.specs.Laws.{WrittenHasContent, SharedHasContent, ContentImplements, ContentShowsTheSame, WrittenImplements, SharedImplements, ShowsTheSame}
 use Rattle.lp_spec_together.proofs.Indices.{content_keeps_indices}
-use Rattle.lp_spec_together.proofs.Free.{free, ready}
+use Rattle.lp_spec_proper.proofs.Free.{free, ready}
 use Rattle.lp_spec_together.proofs.Supplied.{realised_is_supplied}
 
 pub written_has_content : WrittenHasContent

@@ -34,8 +34,8 @@ use Rattle.lp_spec_agreement.proofs.Apart.{all_in}
 use Rattle.lp_spec_agreement.proofs.ByCells.{frame}
 use Rattle.lp_spec_agreement.proofs.Roles.{Role, role}
 use Rattle.lp_spec_agreement.proofs.Supplied.{IsJoinedAt, numbered_in, source_joins_at, operator_joins_at, switch_joins_at, pg_source}
-use Rattle.lp_spec_together.proofs.Free.{all_from}
-use Rattle.lp_spec_together.proofs.JoinedOrigins.{IsBelow, AreBelow, source_below, operator_below, switch_below}
+use Rattle.lp_spec_proper.proofs.Free.{all_from}
+use Rattle.lp_spec_proper.proofs.JoinedOrigins.{IsBelow, AreBelow, source_below, operator_below, switch_below}
 use Rattle.lp_spec_together.specs.Laws.{RealisedIsSupplied}
 
 -- ---- the nodes of a wire

@@ -1,6 +1,8 @@
 -- The statements of the laws of this crate (own rule).
-use Rattle.std.specs.Prelude.{◌≡◌, ℕ, true, List}
+use Rattle.std.specs.Prelude.{◌≡◌, ℕ, true, List, IsTrue}
+use Rattle.std.specs.List.{list_all}
 use Rattle.lp_model.specs.NetlistView.{ModuleView}
+use Rattle.lp_spec_design.specs.Nodes.{nodes_of}
 use Rattle.lp_spec_design.specs.Settled.{Event}
 use Rattle.lp_spec_design.specs.Registers.{States}
 use Rattle.lp_spec_design.specs.Runs.{SameRegisters}
@@ -8,7 +10,7 @@ use Rattle.lp_spec_pins.specs.Alike.{RunsAlike}
 use Rattle.lp_spec_pins.specs.Pins.{PinEvent}
 use Rattle.lp_spec_pins.specs.Supplied.{is_supplied}
 use Rattle.lp_spec_realises.specs.Projects.{Project, design_of}
-use Rattle.lp_spec_realises.specs.ProjectNetlists.{netlist_of}
+use Rattle.lp_spec_realises.specs.ProjectNetlists.{netlist_of, has_single_source}
 use Rattle.lp_spec_realises.specs.Implements.{Lists}
 use Rattle.lp_spec_realises.specs.Surroundings.{powered_of, AreWithin, SameEvents}
 use Rattle.lp_spec_realises.specs.Realises.{Realises}
@@ -20,7 +22,9 @@ use Rattle.lp_spec_written.specs.Shared.{shared}
 use Rattle.lp_spec_written.specs.Written.{Additions, written}
 use Rattle.lp_spec_wired.specs.Contents.{IsWrittenAt}
 use Rattle.lp_spec_wired.specs.Names.{placement_of}
-use Rattle.lp_spec_together.specs.Missing.{IsInsertable, IsWithinLimits, HasWrittenContent, IsWired}
+use Rattle.lp_spec_begun.specs.Begun.{HasPlainCells}
+use Rattle.lp_spec_proper.specs.Insertable.{IsInsertable, IsWithinLimits}
+use Rattle.lp_spec_together.specs.Missing.{HasWrittenContent, IsWired}
 
 -- a netlist that realises a project without faults has one supply for each power and ground pin
 abbrev pub RealisedIsSupplied : Type 0
@@ -41,6 +45,16 @@ SharedHasContent =
     (p : Project) (l : Lists) (switch_command : ℕ → ℕ)
     → IsRead p → IsInsertable p l switch_command → IsWithinLimits p l
     → HasWrittenContent p l (shared (written p l))
+
+-- a netlist of that content is wired, where no node has two sources and cells that stand by themselves have no retention pins
+abbrev pub ContentIsWired : Type 0
+ContentIsWired =
+    (p : Project) (l : Lists) (switch_command : ℕ → ℕ) (modules : List ModuleView)
+    → IsRead p → IsInsertable p l switch_command → IsWithinLimits p l
+    → HasPlainCells p l
+    → HasWrittenContent p l modules
+    → IsTrue (list_all (has_single_source (netlist_of p modules)) (nodes_of (netlist_of p modules)))
+    → IsWired p l modules
 
 -- a netlist of that content implements its project, as far as it is wired
 abbrev pub ContentImplements : Type 0

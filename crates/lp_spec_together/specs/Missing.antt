@@ -1,49 +1,17 @@
--- What an insertion needs of a project beside the absence of faults that bear on values, and what is still to be shown of the netlist that it writes (own rule).
-use Rattle.std.specs.Prelude.{◌≡◌, ℕ, true, false, List, map, None, is_some, IsTrue}
-use Rattle.std.specs.List.{list_any}
+-- What is written content, and what is still to be shown of the netlist that is written (own rule).
+use Rattle.std.specs.Prelude.{List, IsTrue}
 use Rattle.lp_model.specs.NetlistView.{ModuleView}
-use Rattle.lp_model.specs.LibraryView.{CellView}
-use Rattle.lp_spec_design.specs.Netlists.{module_at}
 use Rattle.lp_spec_design.specs.Nodes.{fuel_of}
-use Rattle.lp_spec_design.specs.Winners.{IsIn}
 use Rattle.lp_spec_realises.specs.Projects.{Project}
-use Rattle.lp_spec_realises.specs.ProjectNetlists.{netlist_of, are_apart, has_names_apart}
-use Rattle.lp_spec_realises.specs.Operators.{SwitchAt, all_switches}
+use Rattle.lp_spec_realises.specs.ProjectNetlists.{netlist_of, has_names_apart}
 use Rattle.lp_spec_realises.specs.Realises.{begins_right, controls_begin, supplies_begin}
 use Rattle.lp_spec_realises.specs.Implements.{Lists}
-use Rattle.lp_spec_faults.specs.Lines.{first_of}
-use Rattle.lp_spec_faults.specs.Modules.{reserved_name, unknown_module, recursive, top_count}
-use Rattle.lp_spec_faults.specs.Readings.{no_cell}
-use Rattle.lp_spec_faultless.specs.Faults.{HasNoFault}
 use Rattle.lp_spec_written.specs.Written.{additions}
 use Rattle.lp_spec_written.specs.Implements.{bits_begin, named_bits}
 use Rattle.lp_spec_wired.specs.Contents.{IsWrittenAt}
 use Rattle.lp_spec_wired.specs.Names.{placement_of}
-use Rattle.lp_spec_written_at.specs.Sources.{takes_own_name, IsReached, HasOriginNames, HasFewAdditions, HasControls}
+use Rattle.lp_spec_written_at.specs.Sources.{IsReached}
 use Rattle.lp_spec_written_at.specs.Laws.{IsDrivenOnce}
-
--- ---- the project
-
--- no line of the table of faults holds that bears on an insertion
-pub record IsInsertable (p : Project) (l : Lists) (switch_command : ℕ → ℕ) : Type 0 where
-  -- what bears on values
-  pub values : HasNoFault p switch_command
-  -- F13, F17, F18 and F19
-  pub targets : first_of (unknown_module p.structure) ≡ None
-  pub not_recursive : first_of (recursive p.structure) ≡ None
-  pub one_top : first_of (top_count p.structure) ≡ None
-  pub names : first_of (reserved_name p.structure) ≡ None
-  -- F60
-  pub cells : first_of (no_cell p l) ≡ None
-
--- what limits and readers give beside: cells have names of their own, none that can be used begins as the added ones, supply ports have names of their own, controls are declared, switches have scopes, and what is added is not too much
-pub record IsWithinLimits (p : Project) (l : Lists) : Type 0 where
-  pub cell_names : are_apart (map (λ (c : CellView). c.name) p.structure.cells) ≡ true
-  pub free_cells : list_any takes_own_name p.structure.cells ≡ false
-  pub origin_names : HasOriginNames p
-  pub controls : HasControls p
-  pub scopes : (x : SwitchAt) → IsIn x (all_switches p) → is_some (module_at p.structure (l.scope_of_switch x.origin)) ≡ true
-  pub few : HasFewAdditions p l
 
 -- ---- the netlist
 

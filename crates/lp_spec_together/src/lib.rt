@@ -5,6 +5,7 @@
 mod laws;
 
 pub use laws::{
-    content_implements, content_keeps_indices, content_shows_the_same, realised_is_supplied,
-    shared_has_content, shared_implements, written_has_content, written_implements,
+    content_implements, content_is_wired, content_keeps_indices, content_shows_the_same,
+    realised_is_supplied, shared_has_content, shared_implements, written_has_content,
+    written_implements,
 };

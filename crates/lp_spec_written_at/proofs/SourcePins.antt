@@ -137,7 +137,7 @@ module _ (p : Project) (l : Lists) (x : Path) (y : InstanceView) (c : CellView) 
 
   pub retention-there : (k : Kept) → kept_at a.plan place ≡ Some k → (q : PinView) → IsIn q (retention_pins c) → bits_named q.name (own ++ (retained (kept_at a.plan place) ++ supplies)) ≡ some_control_bits a.chains a.controls x (control_of k.strategy q.use_of)
   retention-there k e q h =
-      own-none q.name (λ d r. free.retention d q r h) (retained (kept_at a.plan place) ++ supplies)
+      own-none q.name (λ d r. free.retention k d q e r h) (retained (kept_at a.plan place) ++ supplies)
       ∙ (ap (λ o. bits_named q.name (retained o ++ supplies)) e
       ∙ bits-front (retained (Some k)) supplies (retained-apart k (kept-cell k e))
       (joined_to q.name (some_control_bits a.chains a.controls x (control_of k.strategy q.use_of)))

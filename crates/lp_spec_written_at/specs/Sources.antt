@@ -18,7 +18,7 @@ use Rattle.lp_spec_fit.specs.Fits.{is_usable, retention_pins}
 use Rattle.lp_spec_faults.specs.Modules.{names_of, is_own, is_reserved, InstanceAt, all_instances}
 use Rattle.lp_spec_written.specs.Places.{instances, Standing, Kept, Switching, cell_numbered, plan, switches_in}
 use Rattle.lp_spec_written.specs.Nets.{Stretch, stretches, linked, by_names}
-use Rattle.lp_spec_written.specs.Supplies.{cell_for}
+use Rattle.lp_spec_written.specs.Supplies.{kept_at, cell_for}
 use Rattle.lp_spec_written.specs.Routes.{parts}
 use Rattle.lp_spec_written.specs.Written.{Additions, additions}
 
@@ -117,9 +117,14 @@ connections_of (ByPosition values) = []
 abbrev pub cell_names : CellView → List Name
 cell_names c = map (λ (q : PinView). q.name) c.pins ++ map (λ (g : PgPinView). g.name) c.pgs
 
--- a cell instance of the source and the cell that stands for it: its pins have names of their own, and no connection of the source names a retention pin of it, or a power or ground pin
+-- a cell instance of the source and the cell that stands for it: its pins have names of their own, and no connection of the source names a retention pin of a cell that takes its place, or a power or ground pin
 pub record HasFreePins (p : Project) (l : Lists) (x : Path) (y : InstanceView) (c : CellView) : Type 0 where
   pub cell : cell_for p (plan p l) (record { path = x; instance = y.name }) ≡ Some c
   pub apart : are_apart (cell_names c) ≡ true
-  pub retention : (d : ConnectionView) (q : PinView) → IsIn d (by_names [] y.connections) → IsIn q (retention_pins c) → bytes_eq d.port q.name ≡ false
+  pub retention :
+      (k : Kept) (d : ConnectionView) (q : PinView)
+      → kept_at (plan p l) (record { path = x; instance = y.name }) ≡ Some k
+      → IsIn d (by_names [] y.connections)
+      → IsIn q (retention_pins c)
+      → bytes_eq d.port q.name ≡ false
   pub supplies : (d : ConnectionView) (g : PgPinView) → IsIn d (by_names [] y.connections) → IsIn g c.pgs → bytes_eq d.port g.name ≡ false

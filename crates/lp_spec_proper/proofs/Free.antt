@@ -21,8 +21,8 @@ use Rattle.lp_spec_faultless.proofs.Whole.{declares}
 use Rattle.lp_spec_written_at.specs.Sources.{IsFree}
 use Rattle.lp_spec_written_at.specs.Laws.{IsReady}
 use Rattle.lp_spec_written_at.proofs.Targets.{targets-free}
-use Rattle.lp_spec_together.proofs.Few.{few_instances}
-use Rattle.lp_spec_together.specs.Missing.{IsInsertable, IsWithinLimits}
+use Rattle.lp_spec_proper.proofs.Few.{few_instances}
+use Rattle.lp_spec_proper.specs.Insertable.{IsInsertable, IsWithinLimits}
 
 -- ---- targets
 
