@@ -1,0 +1,5 @@
+mod Held
+mod Joined
+mod Indexed
+mod Parts
+mod Few

@@ -1,0 +1,11 @@
+pub mod Ends
+pub mod Runs
+pub mod Views
+pub mod Pieces
+pub mod Indexes
+pub mod Numbered
+pub mod Values
+pub mod Connected
+pub mod Modules
+pub mod Sizes
+pub mod Stocks
