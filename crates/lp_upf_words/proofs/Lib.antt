@@ -2,5 +2,5 @@ mod Again
 mod Answered
 mod Found
 mod Leaving
-mod Once
+pub mod Once
 mod Shown

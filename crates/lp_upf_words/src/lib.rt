@@ -13,4 +13,5 @@ pub use answer::WordsRead;
 pub use laws::{
     one_list_of_elements, one_list_of_words, words_are_found, words_leave_at_their_place,
 };
+pub use mode::Stop;
 pub use read::read_words;

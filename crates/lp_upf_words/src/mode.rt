@@ -28,7 +28,7 @@ pub(crate) enum Mode {
 
 /// Why a text leaves the form of words.
 #[derive(Clone, Copy)]
-pub(crate) enum Stop {
+pub enum Stop {
     /// A byte that cannot stand there, or the text's end.
     Syntax(Place),
     /// `$`, which would stand for a variable.

@@ -1,0 +1,4 @@
+pub mod Same
+pub mod Once
+pub mod Senses
+mod Computed

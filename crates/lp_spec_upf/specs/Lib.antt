@@ -1,0 +1,4 @@
+pub mod Shapes
+pub mod Commands
+pub mod Intent
+pub mod Laws
