@@ -1,35 +1,32 @@
 -- The stages of an insertion, joined: what is accepted, and the first fault of what is not.
-use Rattle.std.proofs.Common.{◌≡◌, ℕ, ◌+◌, ◌≤◌, ◌<◌, Bool, true, false, not, List, [], ◌∷◌, map, length, Option, Some, None, ◌⊎◌, inl, inr, refl, sym, ap, ◌∙◌, subst, arith}
-use Rattle.std.specs.Prelude.{Err, ◌&&◌, ◌||◌, ltb, flat_map, bytes_eq, nat_le, ◌==◌}
+use Rattle.std.proofs.Common.{◌≡◌, ℕ, ◌≤◌, true, not, List, [], ◌∷◌, map, length, inl, inr, refl, sym, ap, ◌∙◌, subst, arith}
+use Rattle.std.specs.Prelude.{Err, ltb, flat_map}
 use Rattle.std.specs.List.{list_all}
-use Rattle.std.proofs.lemmas.Bool.{and_parts, and_from, true≢false, not-true}
+use Rattle.std.proofs.lemmas.Bool.{and_parts, and_from}
 use Rattle.std.proofs.lemmas.List.{length-map}
 use Rattle.lp_text.specs.Texts.{Grown, text_at, distinct}
 use Rattle.lp_token.specs.Tokens.{is_name_byte}
 use Rattle.lp_model.specs.Agreement.{numbers_below}
 use Rattle.lp_model.specs.declared.library.Cell.{Cell}
 use Rattle.lp_model.specs.declared.library.Library.{Library}
-use Rattle.lp_model.specs.declared.netlist.Module.{Module}
-use Rattle.lp_model.specs.NetlistView.{ModuleView, module_view, module_numbers}
+use Rattle.lp_model.specs.NetlistView.{ModuleView, module_numbers}
 use Rattle.lp_model.specs.LibraryView.{CellView, cell_view, library_view, library_numbers, library_view-grown, cell_numbers}
 use Rattle.lp_cells.specs.Cells.{cell_names}
-use Rattle.lp_cells.specs.Reasons.{repeated}
 use Rattle.lp_verilog_tokens.specs.Lexical.{is_visible}
 use Rattle.lp_plain_upf.specs.Names.{Name, is_simple_name, begins_with_letter, is_reserved, is_free_name}
-use Rattle.lp_plain_upf.specs.declared.plain.Intent.{Intent}
 use Rattle.lp_spec_plain_netlist.specs.Fits.{are_read}
-use Rattle.lp_spec_plain_netlist.specs.Flats.{HasLoop, IsOrdered, flat_of}
+use Rattle.lp_spec_plain_netlist.specs.Flats.{HasLoop, IsOrdered}
 use Rattle.lp_spec_plain_module.specs.Designs.{Flat}
 use Rattle.lp_plain_index.proofs.Numbers.{below-left, below-right}
-use Rattle.lp_spec_insertion.specs.Inputs.{Inputs, HasCells, HasModules, ReadsBoth, FitsCells, ReadsAll, Accepts}
-use Rattle.lp_spec_insertion.specs.Faults.{IsRefused, FirstFault, library_off, cell_twice, netlist_off, not_single, no_target, no_fit, no_intent, not_plain, loop}
+use Rattle.lp_spec_insertion.specs.Inputs.{Inputs, HasCells, HasModules, ReadsBoth, FitsCells, ReadsAll}
+use Rattle.lp_spec_insertion.specs.Faults.{IsRefused, FirstFault, library_off, cell_twice, netlist_off, netlist_faulty, not_single, no_fit, no_intent, not_plain, loop}
 use Rattle.lp_accept.specs.declared.stop.Stop.{Stop}
 use Rattle.lp_accept.specs.declared.stop.Stop.TheVariants as stops
 use Rattle.lp_accept.specs.declared.accepted.Accepted.{Accepted}
 use Rattle.lp_accept.specs.Inputs.{inputs_of}
 use Rattle.lp_accept.specs.Stages.{OrStop}
-use Rattle.lp_accept.specs.Read.{IsCells, IsNoLibrary, IsModules}
-use Rattle.lp_accept.specs.Judged.{IsOne, IsNotOne, Fitting, Misfits, NoIntent, UnsoundUnder, Judged, Unjudged, cells_of, source_of, flat_by, IsAccepted}
+use Rattle.lp_accept.specs.Read.{AreCells, IsCells, IsNoLibrary}
+use Rattle.lp_accept.specs.Judged.{IsFaultless, IsOne, IsNotTaken, Fitting, Judged, Unjudged, cells_of, source_of, flat_by, IsAccepted}
 use Rattle.lp_accept.proofs.Few.{few-distinct, unrepeated-distinct}
 use Rattle.lp_accept.proofs.Readings.{grown-longer, below-more}
 
@@ -75,6 +72,9 @@ still-cells old new grown libs l is = record {
   below = below-more (length old) (length new) (library_numbers l) (grown-longer old new grown) is.below;
 }
 
+pub are-cells : (names : List (List ℕ)) (libs : List (List ℕ)) (l : Library) → IsCells names libs l → length l.cells ≤ 1140850689 → AreCells names l
+are-cells names libs l is few = record { below = is.below; few = omega (arith, few) }
+
 -- ---- first faults
 
 module _ (libs : List (List ℕ)) (netlist upf : List ℕ) where
@@ -92,20 +92,23 @@ module _ (libs : List (List ℕ)) (netlist upf : List ℕ) where
   exit-netlist P cells c (stops.Fault l) h = netlist_off cells c h
   exit-netlist P cells c stops.NoMemory h = tt
 
-  pub exit-one : {T : Type 0} (P : T → Type 0) (cells : List CellView) (modules : List ModuleView) → HasCells libs cells → HasModules netlist modules → (s : Stop) → OrStop P (IsNotOne modules) (Err s) → Answer s
-  exit-one P cells modules c m (stops.Fault l) h = not_single cells modules c m h.0 h.1
-  exit-one P cells modules c m stops.NoMemory h = tt
+  untaken : (cells : List CellView) (modules : List ModuleView) → HasCells libs cells → HasModules netlist modules → (line : List ℕ) → IsNotTaken cells modules line → FirstFault inputs line
+  untaken cells modules c m line (inl f) = netlist_faulty cells modules f.report c m f.first f.spelled
+  untaken cells modules c m line (inr o) = not_single cells modules c m o.faultless o.other o.spelled
 
-  module _ (cells : List CellView) (m : ModuleView) (has : HasCells libs cells) (modules : List ModuleView) (read : HasModules netlist modules) (one : IsOne modules m) where
+  pub exit-source : {T : Type 0} (P : T → Type 0) (cells : List CellView) (modules : List ModuleView) → HasCells libs cells → HasModules netlist modules → (s : Stop) → OrStop P (IsNotTaken cells modules) (Err s) → Answer s
+  exit-source P cells modules c m (stops.Fault l) h = untaken cells modules c m l h
+  exit-source P cells modules c m stops.NoMemory h = tt
+
+  module _ (cells : List CellView) (m : ModuleView) (has : HasCells libs cells) (modules : List ModuleView) (read : HasModules netlist modules) (one : IsOne cells modules m) where
     pub both : ReadsBoth inputs cells m
-    both = record { libraries = has; netlist = subst (HasModules netlist) one.one read; single = one.single }
+    both = record { libraries = has; netlist = subst (HasModules netlist) one.one read; faultless = subst (IsFaultless cells) one.one one.faultless; single = one.single }
 
     fit : Fitting cells m → FitsCells inputs cells m
-    fit f = record { both = both; known = f.known; fits = f.fits }
+    fit f = record { both = both; fits = f }
 
     unjudged : (line : List ℕ) → Unjudged cells m upf line → FirstFault inputs line
-    unjudged line (inl (inl t)) = no_target cells m t.instance both t.first t.spelled
-    unjudged line (inl (inr f)) = no_fit cells m both f.known f.unfit f.spelled
+    unjudged line (inl f) = no_fit cells m both f.0 f.1
     unjudged line (inr (f, inl n)) = no_intent cells m (fit f) n.0 n.1
     unjudged line (inr (f, inr u)) =
         let all : ReadsAll inputs cells m u.under = record { fit = fit f; intent = u.intent } in
@@ -120,7 +123,7 @@ module _ (libs : List (List ℕ)) (netlist upf : List ℕ) where
 
   -- what is judged is accepted
   pub accepted : (none : (f : Flat) → IsOrdered f → HasLoop f → ⊥) → ((cells : List CellView) (m : ModuleView) → ReadsBoth inputs cells m → are_read cells m ≡ true) → (a : Accepted) → IsCells a.names libs a.library → length a.library.cells ≤ 1140850689 → length a.names ≤ 1140850689
-      → (modules : List ModuleView) → HasModules netlist modules → IsOne modules (source_of a) → numbers_below (length a.names) (module_numbers a.source) ≡ true → Judged (cells_of a) (source_of a) upf a.intent → IsAccepted inputs a
+      → (modules : List ModuleView) → HasModules netlist modules → IsOne (cells_of a) modules (source_of a) → numbers_below (length a.names) (module_numbers a.source) ≡ true → Judged (cells_of a) (source_of a) upf a.intent → IsAccepted inputs a
   accepted none readable a cells few_cells few_names modules read one below j = record {
     accepts = record {
       all = record { fit = fit (cells_of a) (source_of a) cells.has modules read one j.fitting; intent = j.intent };

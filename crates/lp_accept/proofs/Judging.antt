@@ -1,58 +1,35 @@
 -- The judging stages: what they give and their faults.
-use Rattle.std.proofs.Common.{◌≡◌, ℕ, ◌+◌, ◌≤◌, ◌<◌, Bool, true, false, List, [], ◌∷◌, ◌++◌, map, length, Option, Some, None, ◌⊎◌, inl, inr, refl, sym, ap, ◌∙◌, subst, arith}
-use Rattle.std.specs.Prelude.{Err, ◌&&◌, flat_map, bytes_eq, ltb, not, is_none}
+use Rattle.std.proofs.Common.{◌≡◌, ℕ, ◌+◌, ◌≤◌, true, false, List, [], ◌∷◌, ◌++◌, map, length, Option, Some, None, ◌⊎◌, inl, inr, refl, sym, ap, ◌∙◌, subst, arith}
+use Rattle.std.specs.Prelude.{Err, ◌&&◌, flat_map, ltb}
 use Rattle.std.specs.List.{list_all}
-use Rattle.std.proofs.lemmas.Bool.{and_parts, true≢false}
+use Rattle.std.proofs.lemmas.Bool.{and_parts}
 use Rattle.std.proofs.lemmas.List.{map-append, length-append, length-map}
 use Rattle.lp_text.specs.Texts.{text_at, distinct, distinct-append_left}
 use Rattle.lp_model.specs.Agreement.{numbers_below}
-use Rattle.lp_model.specs.FaultLines.{fault_line}
 use Rattle.lp_model.specs.declared.netlist.BitRange.{BitRange}
 use Rattle.lp_model.specs.declared.netlist.Module.{Module}
 use Rattle.lp_model.specs.declared.netlist.Port.{Port}
 use Rattle.lp_model.specs.declared.netlist.NetDecl.{NetDecl}
-use Rattle.lp_model.specs.declared.netlist.Instance.{Instance}
-use Rattle.lp_model.specs.declared.library.Cell.{Cell}
 use Rattle.lp_model.specs.NetlistView.{PortView, NetView, InstanceView, ModuleView, port_view, net_view, module_view, port_numbers, net_numbers, instance_numbers, assign_numbers, module_numbers}
-use Rattle.lp_model.specs.LibraryView.{CellView, cell_view, cell_numbers}
+use Rattle.lp_model.specs.LibraryView.{CellView}
 use Rattle.lp_plain_upf.specs.declared.plain.Intent.{Intent}
 use Rattle.lp_plain_upf.specs.Upf.{IsIntent}
-use Rattle.lp_cells.specs.Reasons.{repeated}
 use Rattle.lp_plain_index.proofs.Numbers.{below-left, below-right, below-tail}
 use Rattle.lp_vwrite.specs.WellFormed.{names_of, is_name, is_net, is_assign}
 use Rattle.lp_vwrite.specs.Sound.{is_read_instance, is_read_module}
 use Rattle.lp_vwrite.specs.Layout.{declared}
-use Rattle.lp_spec_plain_netlist.specs.Single.{is_single, is_single_module}
-use Rattle.lp_spec_plain_netlist.specs.Fits.{first_unknown, is_fit, are_plain, is_read_cell, are_read}
-use Rattle.lp_spec_plain_netlist.specs.Flats.{flat_of, HasLoop, IsOrdered}
-use Rattle.lp_spec_insertion.specs.Faults.{not_yet, unknown_module}
+use Rattle.lp_spec_plain_netlist.specs.Fits.{is_fit, are_plain, is_read_cell, are_read}
+use Rattle.lp_spec_insertion.specs.Faults.{not_yet}
 use Rattle.lp_accept.specs.declared.stop.Stop.{Stop}
 use Rattle.lp_accept.specs.declared.stop.Stop.TheVariants as stops
 use Rattle.lp_accept.specs.Stages.{IsLine, OrStop}
-use Rattle.lp_accept.specs.Judged.{IsOne, IsNotOne, Fitting, Misfits, NoTarget, NoFit, NoIntent, Sound, Unsound, UnsoundUnder, Judged, Unjudged, Ordered, Looped}
+use Rattle.lp_accept.specs.Judged.{Fitting, Misfits, NoIntent, Unsound, Judged, Unjudged, Looped}
 use Rattle.lp_accept.proofs.Few.{few-distinct}
 
 -- a stop by a line whose fault stands
 pub stops-line : {T : Type 0} (P : T → Type 0) (Q : List ℕ → Type 0) (line : List ℕ) (s : Stop) → IsLine line s → Q line → OrStop P Q (Err s)
 stops-line P Q line (stops.Fault l) e q = subst Q (sym e) q
 stops-line P Q line stops.NoMemory e q = tt
-
--- ---- one module
-
-pub one-of : (names : List (List ℕ)) (ms rest : List Module) (m : Module) → ms ≡ rest ++ m ∷ [] → is_single (map (module_view names) ms) ≡ true → IsOne (map (module_view names) ms) (module_view names m)
-one-of names ms [] m e h = record { one = ap (map (module_view names)) e; single = sym (ap (λ x. is_single (map (module_view names) x)) e) ∙ h }
-one-of names ms (x ∷ []) m e h = absurd (true≢false (sym h ∙ ap (λ y. is_single (map (module_view names) y)) e))
-one-of names ms (x ∷ y ∷ rest) m e h = absurd (true≢false (sym h ∙ ap (λ z. is_single (map (module_view names) z)) e))
-
-pub one-below : (names : List (List ℕ)) (ms rest : List Module) (m : Module) → ms ≡ rest ++ m ∷ [] → numbers_below (length names) (flat_map module_numbers ms) ≡ true → numbers_below (length names) (module_numbers m) ≡ true
-one-below names ms rest m e b = by rest (subst (λ x. numbers_below (length names) (flat_map module_numbers x) ≡ true) e b)
-  where
-    by : (xs : List Module) → numbers_below (length names) (flat_map module_numbers (xs ++ m ∷ [])) ≡ true → numbers_below (length names) (module_numbers m) ≡ true
-    by [] h = below-left (length names) (module_numbers m) [] h
-    by (x ∷ xs) h = by xs (below-right (length names) (module_numbers x) (flat_map module_numbers (xs ++ m ∷ [])) h)
-
-pub none-single : (names : List (List ℕ)) (ms : List Module) → ms ≡ [] → is_single (map (module_view names) ms) ≡ true → ⊥
-none-single names ms e h = true≢false (sym h ∙ ap (λ x. is_single (map (module_view names) x)) e)
 
 -- ---- no more nets than names
 
@@ -123,11 +100,8 @@ module _ (names : List (List ℕ)) where
 
 -- ---- the stages joined
 
-pub misfit : {T : Type 0} (P : T → Type 0) (cells : List CellView) (m : ModuleView) (s : Stop) → IsLine (not_yet 4) s → first_unknown cells m ≡ None → is_fit cells m ≡ false → OrStop P (Misfits cells m) (Err s)
-misfit P cells m s e k f = stops-line P (Misfits cells m) (not_yet 4) s e (inr (record { known = k; unfit = f; spelled = refl }))
-
-pub untargeted : {T : Type 0} (P : T → Type 0) (cells : List CellView) (m : ModuleView) (x : InstanceView) (s : Stop) → IsLine (unknown_module m.name x.name) s → first_unknown cells m ≡ Some x → OrStop P (Misfits cells m) (Err s)
-untargeted P cells m x s e f = stops-line P (Misfits cells m) (unknown_module m.name x.name) s e (inl (record { instance = x; first = f; spelled = refl }))
+pub misfit : {T : Type 0} (P : T → Type 0) (cells : List CellView) (m : ModuleView) (s : Stop) → IsLine (not_yet 4) s → is_fit cells m ≡ false → OrStop P (Misfits cells m) (Err s)
+misfit P cells m s e f = stops-line P (Misfits cells m) (not_yet 4) s e (f, refl)
 
 pub no-intent : {T : Type 0} (P : T → Type 0) (text : List ℕ) (o : Option Intent) (s : Stop) → IsLine (not_yet 5) s → o ≡ None → ((i : Intent) → IsIntent text i → o ≡ Some i) → OrStop P (NoIntent text) (Err s)
 no-intent P text o s e none only = stops-line P (NoIntent text) (not_yet 5) s e ((λ i is. let gone : None ≡ Some i = sym none ∙ only i is in let no : ⊥ = cc in no), refl)

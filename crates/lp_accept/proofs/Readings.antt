@@ -1,5 +1,5 @@
 -- Reading one library text after another.
-use Rattle.std.proofs.Common.{◌≡◌, ℕ, zero, suc, ◌+◌, ◌≤◌, ◌<◌, Bool, true, List, [], ◌∷◌, ◌++◌, map, length, take, drop, ◌⊎◌, inl, inr, refl, sym, ap, ◌∙◌, subst, arith, length-append}
+use Rattle.std.proofs.Common.{◌≡◌, ℕ, zero, suc, ◌+◌, ◌≤◌, ◌<◌, Bool, true, List, [], ◌∷◌, ◌++◌, map, length, take, drop, inl, inr, refl, sym, ap, ◌∙◌, subst, arith, length-append}
 use Rattle.std.specs.Prelude.{ltb, Err, Some, slice_index_or}
 use Rattle.std.specs.List.{list_all}
 use Rattle.std.proofs.lemmas.Bool.{and_parts, and_from, ltb-true, lt-ltb}
@@ -16,13 +16,12 @@ use Rattle.lp_model.specs.declared.fault.refusal.DesignFault.TheVariants as desi
 use Rattle.lp_model.specs.declared.fault.library.LibraryFault.TheVariants as library
 use Rattle.lp_model.specs.declared.fault.refusal.Refusal.{Refusal}
 use Rattle.lp_model.specs.declared.fault.refusal.Refusal.TheVariants as refusals
-use Rattle.lp_model.specs.Refusals.{library_refusal}
 use Rattle.lp_liberty.specs.Denotes.{Denotes, RefusedAs, Large, Long, Deep, Off}
 use Rattle.lp_liberty.specs.Denotes as off
 use Rattle.lp_cells.specs.Cells.{RefusesLibrary, Duplicate, NoMemory, cells_of, cell_names}
 use Rattle.lp_cells.specs.Reasons.{repeated}
 use Rattle.lp_spec_insertion.specs.Inputs.{HaveGroups}
-use Rattle.lp_spec_insertion.specs.Faults.{IsOff, FirstOff, HasTwice, duplicate_cell}
+use Rattle.lp_spec_insertion.specs.Faults.{IsOff, FirstOff, duplicate_cell}
 use Rattle.lp_accept.specs.declared.stop.Stop.{Stop}
 use Rattle.lp_accept.specs.declared.stop.Stop.TheVariants as stops
 use Rattle.lp_accept.specs.Stages.{IsLine, OrStop}

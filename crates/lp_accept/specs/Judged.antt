@@ -3,7 +3,7 @@ use Rattle.std.specs.Prelude.{◌≡◌, ℕ, Bool, ◌≤◌, ◌⊎◌, true, 
 use Rattle.std.specs.List.{list_all}
 use Rattle.lp_model.specs.Agreement.{numbers_below}
 use Rattle.lp_model.specs.declared.library.Cell.{Cell}
-use Rattle.lp_model.specs.NetlistView.{InstanceView, ModuleView, module_view, module_numbers}
+use Rattle.lp_model.specs.NetlistView.{ModuleView, module_view, module_numbers}
 use Rattle.lp_model.specs.LibraryView.{CellView, cell_view, library_view, library_numbers}
 use Rattle.lp_spec_design.specs.Keys.{Name}
 use Rattle.lp_spec_plain.specs.Cells.{loses_with_supply}
@@ -12,10 +12,11 @@ use Rattle.lp_verilog_tokens.specs.Lexical.{is_visible}
 use Rattle.lp_plain_upf.specs.declared.plain.Intent.{Intent}
 use Rattle.lp_plain_upf.specs.Upf.{IsIntent}
 use Rattle.lp_spec_plain_netlist.specs.Single.{is_single, is_single_module}
-use Rattle.lp_spec_plain_netlist.specs.Fits.{first_unknown, is_fit, are_plain, are_read}
+use Rattle.lp_spec_plain_netlist.specs.Fits.{is_fit, are_plain, are_read}
 use Rattle.lp_spec_plain_netlist.specs.Flats.{flat_of, HasLoop, IsOrdered}
-use Rattle.lp_spec_insertion.specs.Inputs.{Inputs, Accepts}
-use Rattle.lp_spec_insertion.specs.Faults.{not_yet, unknown_module}
+use Rattle.lp_targets.specs.Reports.{Report}
+use Rattle.lp_spec_insertion.specs.Inputs.{Inputs, structure_in, netlist_report, Accepts}
+use Rattle.lp_spec_insertion.specs.Faults.{not_yet, report_line}
 use Rattle.lp_model.specs.declared.netlist.Module.{Module}
 use Rattle.lp_accept.specs.declared.accepted.Accepted.{Accepted}
 use Rattle.lp_accept.specs.declared.stop.Stop.{Stop}
@@ -25,31 +26,40 @@ use Rattle.lp_accept.specs.Stages.{OrStop}
 abbrev pub losing : List (List ℕ) → List Cell → List Bool
 losing texts cells = map (λ c. loses_with_supply (cell_view texts c)) cells
 
--- the one module of a netlist
-pub record IsOne (modules : List ModuleView) (m : ModuleView) : Type 0 where
-  pub one : modules ≡ m ∷ []
-  pub single : is_single_module m ≡ true
+-- a netlist of which no line holds about names, targets, modules, connections and cells
+abbrev pub IsFaultless : List CellView → List ModuleView → Type 0
+IsFaultless cells modules = netlist_report (structure_in cells modules) ≡ None
 
-abbrev pub IsNotOne : List ModuleView → List ℕ → Type 0
-IsNotOne modules line = (is_single modules ≡ false) × (line ≡ not_yet 4)
+pub record IsFaulty (cells : List CellView) (modules : List ModuleView) (line : List ℕ) : Type 0 where
+  pub report : Report
+  pub first : netlist_report (structure_in cells modules) ≡ Some report
+  pub spelled : line ≡ report_line report
 
--- every instance has a target, and the module fits the cells
-pub record Fitting (cells : List CellView) (m : ModuleView) : Type 0 where
-  pub known : first_unknown cells m ≡ None
-  pub fits : is_fit cells m ≡ true
-
-pub record NoTarget (cells : List CellView) (m : ModuleView) (line : List ℕ) : Type 0 where
-  pub instance : InstanceView
-  pub first : first_unknown cells m ≡ Some instance
-  pub spelled : line ≡ unknown_module m.name instance.name
-
-pub record NoFit (cells : List CellView) (m : ModuleView) (line : List ℕ) : Type 0 where
-  pub known : first_unknown cells m ≡ None
-  pub unfit : is_fit cells m ≡ false
+pub record IsOtherForm (cells : List CellView) (modules : List ModuleView) (line : List ℕ) : Type 0 where
+  pub faultless : IsFaultless cells modules
+  pub other : is_single modules ≡ false
   pub spelled : line ≡ not_yet 4
 
+-- a faultless netlist of the form that is taken
+pub record IsTaken (cells : List CellView) (modules : List ModuleView) : Type 0 where
+  pub faultless : IsFaultless cells modules
+  pub single : is_single modules ≡ true
+
+abbrev pub IsNotTaken : List CellView → List ModuleView → List ℕ → Type 0
+IsNotTaken cells modules line = IsFaulty cells modules line ⊎ IsOtherForm cells modules line
+
+-- the one module of such a netlist
+pub record IsOne (cells : List CellView) (modules : List ModuleView) (m : ModuleView) : Type 0 where
+  pub one : modules ≡ m ∷ []
+  pub faultless : IsFaultless cells modules
+  pub single : is_single_module m ≡ true
+
+-- the module fits the cells
+abbrev pub Fitting : List CellView → ModuleView → Type 0
+Fitting cells m = is_fit cells m ≡ true
+
 abbrev pub Misfits : List CellView → ModuleView → List ℕ → Type 0
-Misfits cells m line = NoTarget cells m line ⊎ NoFit cells m line
+Misfits cells m line = (is_fit cells m ≡ false) × (line ≡ not_yet 4)
 
 -- a text that denotes no intent
 abbrev pub NoIntent : List ℕ → List ℕ → Type 0
@@ -85,9 +95,19 @@ abbrev pub Unjudged : List CellView → ModuleView → List ℕ → List ℕ →
 Unjudged cells m text line = Misfits cells m line ⊎ (Fitting cells m × (NoIntent text line ⊎ UnsoundUnder cells m text line))
 
 -- what each stage gives, or the fault that is its own
-abbrev pub OneOrStop : List (List ℕ) → List ModuleView → Result Module Stop → Type 0
-OneOrStop names modules result =
-    OrStop (λ m. IsOne modules (module_view names m) × (numbers_below (length names) (module_numbers m) ≡ true)) (IsNotOne modules) result
+abbrev pub FaultlessOrStop : {T : Type 0} → List CellView → List ModuleView → Result T Stop → Type 0
+FaultlessOrStop cells modules result = OrStop (λ _. IsFaultless cells modules) (IsFaulty cells modules) result
+
+abbrev pub TakenOrStop : {T : Type 0} → List CellView → List ModuleView → Result T Stop → Type 0
+TakenOrStop cells modules result = OrStop (λ _. IsTaken cells modules) (IsNotTaken cells modules) result
+
+-- the one module, whose names are all of the table
+pub record IsSource (names : List (List ℕ)) (cells : List CellView) (modules : List ModuleView) (m : Module) : Type 0 where
+  pub one : IsOne cells modules (module_view names m)
+  pub below : numbers_below (length names) (module_numbers m) ≡ true
+
+abbrev pub SourceOrStop : List (List ℕ) → List CellView → List ModuleView → Result Module Stop → Type 0
+SourceOrStop names cells modules result = OrStop (IsSource names cells modules) (IsNotTaken cells modules) result
 
 abbrev pub FitOrStop : {T : Type 0} → List CellView → ModuleView → Result T Stop → Type 0
 FitOrStop cells m result = OrStop (λ _. Fitting cells m) (Misfits cells m) result

@@ -4,9 +4,10 @@ ghost use Rattle.lp_accept.specs.Stages.{OrStop};
 ghost use Rattle.lp_accept.specs.Inputs.{inputs_of};
 ghost use Rattle.lp_accept.specs.Judged.{IsAccepted};
 
-use crate::judge::{judge, one_module};
+use crate::judge::judge;
 use crate::libraries::read_library;
 use crate::netlist::read_modules;
+use crate::source::source_of;
 use crate::stop::Stop;
 use lp_model::{Library, Module};
 use lp_plain_upf::Intent;
@@ -50,7 +51,7 @@ pub fn accept(alloc: Global, libs: &[Bytes], netlist: &[u8], upf: &[u8]) -> Resu
         Ok(modules) => modules,
         Err(stop) => return Err(stop),
     };
-    let source = match one_module(alloc, &names, modules) {
+    let source = match source_of(alloc, &names, &library, modules) {
         Ok(source) => source,
         Err(stop) => return Err(stop),
     };

@@ -1,60 +1,24 @@
-ghost use Rattle.std.specs.Prelude.{◌≡◌, ◌≤◌, ◌+◌, [], ◌∷◌, length, map, true, ◌*◌};
+ghost use Rattle.std.specs.Prelude.{◌≡◌, ◌≤◌, ◌+◌, length, map, true, ◌*◌};
 ghost use Rattle.lp_text.specs.declared.shelf.TheConstants.{LIMIT};
 ghost use Rattle.std.specs.List.{flat_map};
-ghost use Rattle.lp_text.specs.Texts.{text_at};
 ghost use Rattle.lp_model.specs.Agreement.{numbers_below};
 ghost use Rattle.lp_model.specs.LibraryView.{cell_view, cell_numbers};
-ghost use Rattle.lp_model.specs.NetlistView.{module_view, netlist_view, module_numbers, netlist_numbers};
+ghost use Rattle.lp_model.specs.NetlistView.{module_view, module_numbers};
 ghost use Rattle.lp_plain_upf.specs.Upf.{IsIntent};
 ghost use Rattle.lp_spec_plain_netlist.specs.Single.{is_single_module};
 ghost use Rattle.lp_spec_plain_netlist.specs.Fits.{are_read};
-ghost use Rattle.lp_spec_insertion.specs.Faults.{not_yet as line_not_yet, unknown_module as line_unknown};
-ghost use Rattle.lp_accept.specs.Stages.{IsLine, OrStop};
-ghost use Rattle.lp_accept.specs.Judged.{OneOrStop, Fitting, FitOrStop, NoIntent, SoundOrStop, JudgedOrStop};
+ghost use Rattle.lp_accept.specs.Stages.{OrStop};
+ghost use Rattle.lp_accept.specs.Judged.{Fitting, FitOrStop, NoIntent, SoundOrStop, JudgedOrStop};
 
 use crate::plain::are_plain;
-use crate::stop::{Stop, stop_at};
-use lp_model::{Cell, DesignFault, Fault, Instance, InstanceRef, Module, Netlist, NetlistFault};
-use lp_plain_fits::{is_fit, is_single, unknown_target};
+use crate::stop::{Stop, not_yet};
+use lp_model::{Cell, Module};
+use lp_plain_fits::is_fit;
 use lp_plain_index::CellIndex;
 use lp_plain_loops::has_loop;
 use lp_plain_upf::{Intent, read_intent};
 use lp_text::Names;
 use std::alloc::Global;
-
-/// The stop at a form that is not built yet, by the number of the work that lifts it.
-fn not_yet(alloc: Global, names: &Names, k: u32) -> Stop
-    ensures { IsLine (line_not_yet k) result }
-{
-    stop_at(alloc, names, &Fault::NotYet(k))
-}
-
-/// The stop at an instance without a target.
-fn unknown(alloc: Global, names: &Names, source: &Module, instance: &Instance) -> Stop
-    ensures { IsLine (line_unknown (text_at names.now source.now.name.0) (text_at names.now instance.now.name.0)) result }
-{
-    let at = InstanceRef {
-        parent: source.name,
-        instance: instance.name,
-    };
-    let fault = Fault::Design(DesignFault::Netlist(NetlistFault::UnknownModule { at }));
-    stop_at(alloc, names, &fault)
-}
-
-/// The one module of a netlist of the form that is taken.
-pub(crate) fn one_module(alloc: Global, names: &Names, netlist: Netlist) -> Result<Module, Stop>
-    requires { numbers_below (length names.now) (netlist_numbers netlist) ≡ true }
-    ensures gives { OneOrStop names.now (netlist_view names.now netlist) result }
-{
-    if !is_single(names, &netlist) {
-        return Err(not_yet(alloc, names, 4));
-    }
-    let mut modules = netlist.modules;
-    match modules.pop() {
-        Some(source) => Ok(source),
-        None => unreachable!(),
-    }
-}
 
 /// Whether a module fits the cells.
 fn check_fit(
@@ -67,9 +31,6 @@ fn check_fit(
     requires source { numbers_below (length names.now) (module_numbers source.now) ≡ true }
     ensures { FitOrStop (map (cell_view names.now) index.now) (module_view names.now source.now) result }
 {
-    if let Some(instance) = unknown_target(index, names, source) {
-        return Err(unknown(alloc, names, source, instance));
-    }
     if !is_fit(alloc, index, names, source)? {
         return Err(not_yet(alloc, names, 4));
     }

@@ -6,6 +6,7 @@ mod judge;
 mod libraries;
 mod netlist;
 mod plain;
+mod source;
 mod stop;
 
 pub use accepted::{Accepted, accept};

@@ -8,7 +8,8 @@ ghost use Rattle.lp_accept.specs.Read.{IsModules};
 use crate::stop::{Stop, stop_at};
 use lp_model::{Netlist, Refusal};
 use lp_text::Names;
-use lp_verilog::{numbers_stand, read_netlist};
+use lp_verilog::{numbers_stand, parts_are_few, read_netlist};
+use lp_vwrite::read_is_sound;
 use std::alloc::Global;
 
 /// The modules of a netlist text.
@@ -19,6 +20,8 @@ pub(crate) fn read_modules(alloc: Global, names: &mut Names, bytes: &[u8]) -> Re
     ensures grown { Grown names.old names.new }
 {
     numbers_stand();
+    parts_are_few();
+    read_is_sound();
     match read_netlist(alloc, names, bytes) {
         Ok(netlist) => {
             let _ = names.count();

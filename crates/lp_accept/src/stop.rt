@@ -1,5 +1,6 @@
 ghost use Rattle.std.specs.Prelude.{IsTrue};
 ghost use Rattle.lp_model.specs.FaultLines.{fault_line, is_plain};
+ghost use Rattle.lp_spec_insertion.specs.Faults.{not_yet as line_not_yet};
 ghost use Rattle.lp_accept.specs.Stages.{IsLine, StopsBy};
 
 use lp_model::{Fault, write_line};
@@ -64,4 +65,11 @@ pub(crate) fn stop_at(alloc: Global, names: &Names, fault: &Fault) -> Stop
     ensures { IsLine (fault_line names.now fault.now) result }
 {
     stop_by(write_line(alloc, names, fault))
+}
+
+/// The stop at a form that is not built yet, by the number of the work that lifts it.
+pub(crate) fn not_yet(alloc: Global, names: &Names, k: u32) -> Stop
+    ensures { IsLine (line_not_yet k) result }
+{
+    stop_at(alloc, names, &Fault::NotYet(k))
 }

@@ -4,11 +4,12 @@ use Rattle.std.proofs.lemmas.Bool.{both_ways}
 use Rattle.lp_text.specs.Texts.{distinct}
 use Rattle.lp_model.specs.FaultLines.{fault_line}
 use Rattle.lp_model.specs.GroupsView.{GroupView}
-use Rattle.lp_model.specs.NetlistView.{InstanceView, ModuleView}
+use Rattle.lp_model.specs.NetlistView.{ModuleView}
 use Rattle.lp_model.specs.LibraryView.{CellView}
 use Rattle.lp_model.specs.declared.fault.refusal.Fault.{Fault}
 use Rattle.lp_model.specs.declared.fault.refusal.Refusal.{Refusal}
 use Rattle.lp_model.specs.declared.fault.refusal.Refusal.TheVariants as refusals
+use Rattle.lp_targets.specs.Reports.{Report}
 use Rattle.lp_liberty.specs.Denotes.{Denotes, RefusedAs}
 use Rattle.lp_cells.specs.Cells.{IsLibrary, cells_of, cell_names}
 use Rattle.lp_cells.specs.Reasons.{repeated}
@@ -17,13 +18,19 @@ use Rattle.lp_verilog.specs.Refusing.{Refuses}
 use Rattle.lp_plain_upf.specs.declared.plain.Intent.{Intent}
 use Rattle.lp_plain_upf.specs.Upf.{IsIntent}
 use Rattle.lp_spec_plain_netlist.specs.Single.{is_single, is_single_module}
-use Rattle.lp_spec_plain_netlist.specs.Fits.{first_unknown, is_fit, are_plain}
+use Rattle.lp_spec_plain_netlist.specs.Fits.{is_fit, are_plain}
 use Rattle.lp_spec_plain_netlist.specs.Flats.{flat_of, HasLoop}
-use Rattle.lp_spec_insertion.specs.Inputs.{Inputs, HaveGroups, HasCells, HasModules, ReadsBoth, FitsCells, ReadsAll, Accepts}
-use Rattle.lp_spec_insertion.specs.Faults.{IsOff, FirstOff, HasTwice, IsRefused, FirstFault, library_off, cell_twice, netlist_off, not_single, no_target, no_fit, no_intent, not_plain, loop, not_yet, unknown_module, duplicate_cell}
+use Rattle.lp_spec_insertion.specs.Inputs.{Inputs, HaveGroups, HasCells, HasModules, structure_in, netlist_report, ReadsBoth, FitsCells, ReadsAll, Accepts}
+use Rattle.lp_spec_insertion.specs.Faults.{IsOff, FirstOff, HasTwice, IsRefused, FirstFault, library_off, cell_twice, netlist_off, netlist_faulty, not_single, no_fit, no_intent, not_plain, loop, not_yet, report_line, duplicate_cell}
 
 abbrev Line : Type 0
 Line = Option (List ℕ)
+
+same_some : {A : Type 0} (o : Option A) (a b : A) → o ≡ Some a → o ≡ Some b → a ≡ b
+same_some o a b e f = let both : Some a ≡ Some b = sym e ∙ f in cc
+
+some_or_none : {A : Type 0} (o : Option A) (a : A) → o ≡ Some a → o ≡ None → ⊥
+some_or_none o a e f = let both : Some a ≡ None = sym e ∙ f in let none : ⊥ = cc in none
 
 -- what is known of the readers
 pub record Readers : Type 0 where
@@ -116,14 +123,16 @@ module _ (known : Readers) where
     abbrev Fitting : List CellView → ModuleView → Line → Type 0
     Fitting cells m v = ((v ≡ Some (not_yet 4)) × (is_fit cells m ≡ false)) ⊎ ((is_fit cells m ≡ true) × Powering cells m v)
 
-    abbrev Targeting : List CellView → ModuleView → Line → Type 0
-    Targeting cells m v = ((x : InstanceView) × ((v ≡ Some (unknown_module m.name x.name)) × (first_unknown cells m ≡ Some x))) ⊎ ((first_unknown cells m ≡ None) × Fitting cells m v)
-
     abbrev Single : List CellView → List ModuleView → Line → Type 0
-    Single cells modules v = ((v ≡ Some (not_yet 4)) × (is_single modules ≡ false)) ⊎ ((m : ModuleView) × ((modules ≡ m ∷ []) × ((is_single_module m ≡ true) × Targeting cells m v)))
+    Single cells modules v = ((v ≡ Some (not_yet 4)) × (is_single modules ≡ false)) ⊎ ((m : ModuleView) × ((modules ≡ m ∷ []) × ((is_single_module m ≡ true) × Fitting cells m v)))
+
+    abbrev Checking : List CellView → List ModuleView → Line → Type 0
+    Checking cells modules v =
+        ((r : Report) × ((v ≡ Some (report_line r)) × (netlist_report (structure_in cells modules) ≡ Some r)))
+        ⊎ ((netlist_report (structure_in cells modules) ≡ None) × Single cells modules v)
 
     abbrev Reading : List CellView → Line → Type 0
-    Reading cells v = ((line : List ℕ) × ((v ≡ Some line) × IsRefused inputs.netlist line)) ⊎ ((modules : List ModuleView) × (HasModules inputs.netlist modules × Single cells modules v))
+    Reading cells v = ((line : List ℕ) × ((v ≡ Some line) × IsRefused inputs.netlist line)) ⊎ ((modules : List ModuleView) × (HasModules inputs.netlist modules × Checking cells modules v))
 
     abbrev Making : Line → Type 0
     Making v = ((line : List ℕ) × ((v ≡ Some line) × HasTwice inputs.libraries line)) ⊎ ((cells : List CellView) × (HasCells inputs.libraries cells × Reading cells v))
@@ -155,15 +164,6 @@ module _ (known : Readers) where
     same_fitting cells m v w (inr a) (inl b) = absurd (both_ways (is_fit cells m) b.1 a.0)
     same_fitting cells m v w (inr a) (inr b) = same_powering cells m v w a.1 b.1
 
-    same_targeting : (cells : List CellView) (m : ModuleView) (v w : Line) → Targeting cells m v → Targeting cells m w → v ≡ w
-    same_targeting cells m v w (inl a) (inl b) =
-        let both : Some a.0 ≡ Some b.0 = sym a.1.1 ∙ b.1.1 in
-        let same : a.0 ≡ b.0 = cc in
-        a.1.0 ∙ (ap (λ x. Some (unknown_module m.name x.name)) same ∙ sym b.1.0)
-    same_targeting cells m v w (inl a) (inr b) = absurd (let both : Some a.0 ≡ None = sym a.1.1 ∙ b.0 in let none : ⊥ = cc in none)
-    same_targeting cells m v w (inr a) (inl b) = absurd (let both : Some b.0 ≡ None = sym b.1.1 ∙ a.0 in let none : ⊥ = cc in none)
-    same_targeting cells m v w (inr a) (inr b) = same_fitting cells m v w a.1 b.1
-
     single-true : (modules : List ModuleView) (m : ModuleView) → modules ≡ m ∷ [] → is_single_module m ≡ true → is_single modules ≡ false → ⊥
     single-true modules m e h f = both_ways (is_single_module m) (ap is_single (sym e) ∙ f) h
 
@@ -174,14 +174,22 @@ module _ (known : Readers) where
     same_single cells modules v w (inr a) (inr b) =
         let both : a.0 ∷ [] ≡ b.0 ∷ [] = sym a.1.0 ∙ b.1.0 in
         let same : a.0 ≡ b.0 = cc in
-        same_targeting cells b.0 v w (subst (λ m. Targeting cells m v) same a.1.1.1) b.1.1.1
+        same_fitting cells b.0 v w (subst (λ m. Fitting cells m v) same a.1.1.1) b.1.1.1
+
+    same_checking : (cells : List CellView) (modules : List ModuleView) (v w : Line) → Checking cells modules v → Checking cells modules w → v ≡ w
+    same_checking cells modules v w (inl a) (inl b) =
+        let same = same_some (netlist_report (structure_in cells modules)) a.0 b.0 a.1.1 b.1.1 in
+        a.1.0 ∙ (ap (λ r. Some (report_line r)) same ∙ sym b.1.0)
+    same_checking cells modules v w (inl a) (inr b) = absurd (some_or_none (netlist_report (structure_in cells modules)) a.0 a.1.1 b.0)
+    same_checking cells modules v w (inr a) (inl b) = absurd (some_or_none (netlist_report (structure_in cells modules)) b.0 b.1.1 a.0)
+    same_checking cells modules v w (inr a) (inr b) = same_single cells modules v w a.1 b.1
 
     same_reading : (cells : List CellView) (v w : Line) → Reading cells v → Reading cells w → v ≡ w
     same_reading cells v w (inl a) (inl b) = a.1.0 ∙ ap (λ l. Some l) (same_refused inputs.netlist a.0 b.0 a.1.1 b.1.1) ∙ sym b.1.0
     same_reading cells v w (inl a) (inr b) = absurd (refused_or_read inputs.netlist a.0 b.0 a.1.1 b.1.0)
     same_reading cells v w (inr a) (inl b) = absurd (refused_or_read inputs.netlist b.0 a.0 b.1.1 a.1.0)
     same_reading cells v w (inr a) (inr b) =
-        same_single cells b.0 v w (subst (λ m. Single cells m v) (known.netlist inputs.netlist a.0 b.0 a.1.0.reads b.1.0.reads) a.1.1) b.1.1
+        same_checking cells b.0 v w (subst (λ m. Checking cells m v) (known.netlist inputs.netlist a.0 b.0 a.1.0.reads b.1.0.reads) a.1.1) b.1.1
 
     same_making : (v w : Line) → Making v → Making w → v ≡ w
     same_making v w (inl a) (inl b) = a.1.0 ∙ ap (λ l. Some l) (same_twice inputs.libraries a.0 b.0 a.1.1 b.1.1) ∙ sym b.1.0
@@ -202,11 +210,11 @@ module _ (known : Readers) where
     same_verdict v w (inr a) (inl b) = absurd (off_or_made b.0 v b.1.1 a)
     same_verdict v w (inr a) (inr b) = same_making v w a b
 
-    both-read : (cells : List CellView) (m : ModuleView) (v : Line) → ReadsBoth inputs cells m → Targeting cells m v → Verdict v
-    both-read cells m v r t = inr (inr (cells, (r.libraries, inr (m ∷ [], (r.netlist, inr (m, (refl, (r.single, t))))))))
+    both-read : (cells : List CellView) (m : ModuleView) (v : Line) → ReadsBoth inputs cells m → Fitting cells m v → Verdict v
+    both-read cells m v r t = inr (inr (cells, (r.libraries, inr (m ∷ [], (r.netlist, inr (r.faultless, inr (m, (refl, (r.single, t)))))))))
 
     fit-read : (cells : List CellView) (m : ModuleView) (v : Line) → FitsCells inputs cells m → Powering cells m v → Verdict v
-    fit-read cells m v f p = both-read cells m v f.both (inr (f.known, inr (f.fits, p)))
+    fit-read cells m v f p = both-read cells m v f.both (inr (f.fits, p))
 
     all-read : (cells : List CellView) (m : ModuleView) (i : Intent) (v : Line) → ReadsAll inputs cells m i → Plain cells m i v → Verdict v
     all-read cells m i v r p = fit-read cells m v r.fit (inr (i, (r.intent, p)))
@@ -215,9 +223,9 @@ module _ (known : Readers) where
     fault-verdict line (library_off x) = inl (line, (refl, x))
     fault-verdict line (cell_twice x) = inr (inl (line, (refl, x)))
     fault-verdict line (netlist_off cells c x) = inr (inr (cells, (c, inl (line, (refl, x)))))
-    fault-verdict line (not_single cells modules c h f e) = inr (inr (cells, (c, inr (modules, (h, inl (ap Some e, f))))))
-    fault-verdict line (no_target cells m x r u e) = both-read cells m (Some line) r (inl (x, (ap Some e, u)))
-    fault-verdict line (no_fit cells m r k f e) = both-read cells m (Some line) r (inr (k, inl (ap Some e, f)))
+    fault-verdict line (netlist_faulty cells modules r c h n e) = inr (inr (cells, (c, inr (modules, (h, inl (r, (ap Some e, n)))))))
+    fault-verdict line (not_single cells modules c h n f e) = inr (inr (cells, (c, inr (modules, (h, inr (n, inl (ap Some e, f)))))))
+    fault-verdict line (no_fit cells m r f e) = both-read cells m (Some line) r (inl (ap Some e, f))
     fault-verdict line (no_intent cells m f h e) = fit-read cells m (Some line) f (inl (ap Some e, h))
     fault-verdict line (not_plain cells m i r f e) = all-read cells m i (Some line) r (inl (ap Some e, f))
     fault-verdict line (loop cells m i margin r p l e) = all-read cells m i (Some line) r (inr (p, inl (ap Some e, (margin, l))))

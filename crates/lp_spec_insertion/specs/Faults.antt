@@ -1,13 +1,14 @@
 -- What is refused, in which order: the first line that holds is the fault (own rule).
 use Rattle.std.specs.Prelude.{◌≡◌, ℕ, suc, ◌≤◌, ◌⊎◌, true, false, List, [], ◌∷◌, ◌++◌, length, codes, Some, None}
 use Rattle.lp_text.specs.Texts.{distinct}
-use Rattle.lp_model.specs.FaultLines.{fault_line}
+use Rattle.lp_model.specs.FaultLines.{fault_line, line_text}
 use Rattle.lp_model.specs.declared.fault.refusal.Fault.{Fault}
 use Rattle.lp_model.specs.declared.fault.refusal.Fault.TheVariants as faults
 use Rattle.lp_model.specs.declared.fault.refusal.Refusal.TheVariants as refusals
 use Rattle.lp_model.specs.GroupsView.{GroupView}
-use Rattle.lp_model.specs.NetlistView.{InstanceView, ModuleView}
+use Rattle.lp_model.specs.NetlistView.{ModuleView}
 use Rattle.lp_model.specs.LibraryView.{CellView}
+use Rattle.lp_targets.specs.Reports.{Report}
 use Rattle.lp_liberty.specs.Denotes.{Denotes, RefusedAs}
 use Rattle.lp_cells.specs.Cells.{cells_of, cell_names}
 use Rattle.lp_cells.specs.Reasons.{repeated}
@@ -15,9 +16,9 @@ use Rattle.lp_verilog.specs.Refusing.{Refuses}
 use Rattle.lp_plain_upf.specs.declared.plain.Intent.{Intent}
 use Rattle.lp_plain_upf.specs.Upf.{IsIntent}
 use Rattle.lp_spec_plain_netlist.specs.Single.{is_single}
-use Rattle.lp_spec_plain_netlist.specs.Fits.{first_unknown, is_fit, are_plain}
+use Rattle.lp_spec_plain_netlist.specs.Fits.{is_fit, are_plain}
 use Rattle.lp_spec_plain_netlist.specs.Flats.{flat_of, HasLoop}
-use Rattle.lp_spec_insertion.specs.Inputs.{Inputs, HaveGroups, HasCells, HasModules, ReadsBoth, FitsCells, ReadsAll}
+use Rattle.lp_spec_insertion.specs.Inputs.{Inputs, HaveGroups, HasCells, HasModules, structure_in, netlist_report, ReadsBoth, FitsCells, ReadsAll}
 
 -- ---- lines, without their line feeds
 
@@ -25,8 +26,9 @@ use Rattle.lp_spec_insertion.specs.Inputs.{Inputs, HaveGroups, HasCells, HasModu
 abbrev pub not_yet : ℕ → List ℕ
 not_yet k = fault_line [] (faults.NotYet k)
 
-abbrev pub unknown_module : List ℕ → List ℕ → List ℕ
-unknown_module m x = codes "lpinsert: F13 UnknownModule " ++ (m ++ (codes " " ++ x))
+-- a word and its fields
+abbrev pub report_line : Report → List ℕ
+report_line r = line_text r.0 r.1
 
 abbrev pub duplicate_cell : List ℕ → List ℕ
 duplicate_cell cell = codes "lpinsert: F03 DuplicateCell " ++ cell
@@ -70,12 +72,12 @@ pub data FirstFault (inputs : Inputs) (line : List ℕ) : Type 0 where
   cell_twice : HasTwice inputs.libraries line → FirstFault inputs line
   -- the netlist text is off the form, or above the limit
   netlist_off : (cells : List CellView) → HasCells inputs.libraries cells → IsRefused inputs.netlist line → FirstFault inputs line
-  -- the netlist is not one module of scalars
-  not_single : (cells : List CellView) (modules : List ModuleView) → HasCells inputs.libraries cells → HasModules inputs.netlist modules → is_single modules ≡ false → line ≡ not_yet 4 → FirstFault inputs line
-  -- an instance's target is no module and no cell
-  no_target : (cells : List CellView) (m : ModuleView) (x : InstanceView) → ReadsBoth inputs cells m → first_unknown cells m ≡ Some x → line ≡ unknown_module m.name x.name → FirstFault inputs line
-  -- the netlist does not fit the cells
-  no_fit : (cells : List CellView) (m : ModuleView) → ReadsBoth inputs cells m → first_unknown cells m ≡ None → is_fit cells m ≡ false → line ≡ not_yet 4 → FirstFault inputs line
+  -- a line of the table holds of names, targets, modules, connections, assigns or cells, and this is the first
+  netlist_faulty : (cells : List CellView) (modules : List ModuleView) (r : Report) → HasCells inputs.libraries cells → HasModules inputs.netlist modules → netlist_report (structure_in cells modules) ≡ Some r → line ≡ report_line r → FirstFault inputs line
+  -- the netlist is not one module of scalars that are connected by name
+  not_single : (cells : List CellView) (modules : List ModuleView) → HasCells inputs.libraries cells → HasModules inputs.netlist modules → netlist_report (structure_in cells modules) ≡ None → is_single modules ≡ false → line ≡ not_yet 4 → FirstFault inputs line
+  -- a signal pin is open, or a net has two sources
+  no_fit : (cells : List CellView) (m : ModuleView) → ReadsBoth inputs cells m → is_fit cells m ≡ false → line ≡ not_yet 4 → FirstFault inputs line
   -- the intent's text leaves the intent form
   no_intent : (cells : List CellView) (m : ModuleView) → FitsCells inputs cells m → ((i : Intent) → IsIntent inputs.intent i → ⊥) → line ≡ not_yet 5 → FirstFault inputs line
   -- a cell is not lost exactly where its one supply is not on

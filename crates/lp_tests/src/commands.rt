@@ -127,11 +127,7 @@ const CASES: &[(Change, Change, Change, &str)] = &[
     ),
     ((", .B(b)", ""), SAME, SAME, "F99 NotYet 4"),
     ((GATE, TWO_GATES), SAME, SAME, "F99 NotYet 4"),
-    (("AND2", "t"), SAME, SAME, "F99 NotYet 4"),
-    (("module t", "module AND2"), SAME, SAME, "F99 NotYet 4"),
     ((".Y(y)", ".Y(a)"), SAME, SAME, "F99 NotYet 4"),
-    ((".Y(y)", ".Y(y), .A(a)"), SAME, SAME, "F99 NotYet 4"),
-    ((".Y(y)", ".Y(y), .VDD(a)"), SAME, SAME, "F99 NotYet 4"),
     ((GATE, CHAIN), SAME, SAME, ""),
     ((GATE, RING), SAME, SAME, "F99 NotYet 7"),
     ((GATE, RING_OF_THREE), SAME, SAME, "F99 NotYet 7"),
@@ -175,6 +171,179 @@ const CASES: &[(Change, Change, Change, &str)] = &[
     ),
     (("AND2", "OR9"), ("1.0", "x"), SAME, "F13 UnknownModule t g"),
 ];
+
+/// The gate and the end of its module.
+const TAIL: &str = "  AND2 g (.A(a), .B(b), .Y(y));\nendmodule\n";
+
+const LOWER: &str = "endmodule\nmodule u (p, q);\n  input [1:0] p;\n  output q;\nendmodule\n";
+
+/// What stands for the gate, what stands for the end of the module, and the line: names, targets, connections, assigns
+/// and cells of one module and of several.
+const CONNECTIONS: &[(&str, &str, &str)] = &[
+    ("  AND2 \\g+1 (.A(a), .B(b), .Y(y));\n", "endmodule\n", ""),
+    ("  wire lp_n;\n", "endmodule\n", "F19 ReservedName lp_n"),
+    (
+        "  AND2 lp_g (.A(a), .B(b), .Y(y));\n",
+        "endmodule\n",
+        "F19 ReservedName lp_g",
+    ),
+    (
+        "  u i (.p({a, b}), .q(y));\n",
+        "endmodule\nmodule AND2 ();\nendmodule\n",
+        "F19 ReservedName AND2",
+    ),
+    (
+        "  v i (.p({a, b}), .q(y));\n",
+        LOWER,
+        "F13 UnknownModule t i",
+    ),
+    (
+        "  u i (.p({a, b}), .q(y));\n  t j ();\n",
+        LOWER,
+        "F17 Recursive t",
+    ),
+    (
+        "  u i ();\n",
+        "endmodule\nmodule u ();\n  v j ();\nendmodule\nmodule v ();\n  u k ();\nendmodule\n",
+        "F17 Recursive u",
+    ),
+    ("  AND2 g (.A(a), .B(b), .Y(y));\n", LOWER, "F18 Top 2"),
+    ("  u i (.p({a, b}), .q(y));\n", LOWER, "F99 NotYet 4"),
+    ("  u i ({a, b}, y);\n", LOWER, "F99 NotYet 4"),
+    ("  u i (.p({a, b}), .q());\n", LOWER, "F99 NotYet 4"),
+    ("  u i (.p(2'b10), .q(y));\n", LOWER, "F99 NotYet 4"),
+    (
+        "  wire [3:0] n;\n  u i (.p(n[2:1]), .q(y));\n",
+        LOWER,
+        "F99 NotYet 4",
+    ),
+    (
+        "  wire [3:0] n;\n  u i (.p(n[2:0]), .q(y));\n",
+        LOWER,
+        "F15 Width t i p",
+    ),
+    ("  u i (.p(a), .q(y));\n", LOWER, "F15 Width t i p"),
+    ("  u i (a, y);\n", LOWER, "F15 Width t i p"),
+    (
+        "  u i (.p({a, b}), .r(y));\n",
+        LOWER,
+        "F14 UnknownPin t i r",
+    ),
+    (
+        "  u i (.p({a, b}), .q(y), .p({a, b}));\n",
+        LOWER,
+        "F14 UnknownPin t i p",
+    ),
+    ("  u i ({a, b}, y, a);\n", LOWER, "F14 UnknownPin t i 3"),
+    (
+        "  u i (.p({a, b}), .q(1'b1));\n",
+        LOWER,
+        "F14 UnknownPin t i q",
+    ),
+    (
+        "  AND2 g (a, b, y);\n",
+        "endmodule\n",
+        "F14 UnknownPin t g 1",
+    ),
+    (
+        "  AND2 g (.A(a), .B(b), .Y(1'b0));\n",
+        "endmodule\n",
+        "F14 UnknownPin t g Y",
+    ),
+    (
+        "  AND2 g (.A(a), .B(b), .Y(y), .A(a));\n",
+        "endmodule\n",
+        "F14 UnknownPin t g A",
+    ),
+    (
+        "  AND2 g (.A(a), .B(b), .Y(y), .VDD(a));\n",
+        "endmodule\n",
+        "F20 AlreadyPowered t g VDD",
+    ),
+    (
+        "  AND2 g (.A({a, b}), .B(b), .Y(y), .VDD());\n",
+        "endmodule\n",
+        "F20 AlreadyPowered t g VDD",
+    ),
+    (
+        "  AND2 g (.A({a, b}), .B(b), .Y(y));\n",
+        "endmodule\n",
+        "F15 Width t g A",
+    ),
+    (
+        "  assign {y} = {a, b};\n",
+        "endmodule\n",
+        "F15 Width t assign 0",
+    ),
+    (
+        "  BUF2 g (.A(a), .Y(y));\n",
+        "endmodule\n",
+        "F61 UnfitCell t g function",
+    ),
+    ("  assign y = a;\n", "endmodule\n", "F99 NotYet 4"),
+];
+
+/// A cell without a function stands beside the other.
+const SECOND: &str = "library (l) {
+  cell (BUF2) {
+    pg_pin (VDD) { voltage_name : VDD ; pg_type : primary_power ; }
+    pg_pin (VSS) { voltage_name : VSS ; pg_type : primary_ground ; }
+    pin (A) { direction : input ; }
+    pin (Y) { direction : output ; }
+  }
+";
+
+/// A run on a netlist with another gate and another end.
+fn ran_connected(alloc: Global, gate: &str, end: &str) -> Result<String, Fail> {
+    let behind = format!(in alloc; "{gate}{end}")?;
+    let netlist = NETLIST.replace(alloc, TAIL, &behind)?;
+    let library = LIBRARY.replace(alloc, "library (l) {\n", SECOND)?;
+    ran(alloc, [&netlist, INTENT, &library])
+}
+
+#[test]
+fn refuses_connections(rt: HostRuntime) -> Result<(), Fail> {
+    for (gate, end, line) in CONNECTIONS {
+        let got = ran_connected(rt.alloc(), gate, end)?;
+        let want = wanted(rt.alloc(), line)?;
+        assert_eq!(rt; got.as_str(), want.as_str());
+    }
+    Ok(())
+}
+
+/// A chain of modules, each with so many instances of the next.
+fn chain(alloc: Global, count: u32, each: u32) -> Result<String, Fail> {
+    let mut text = String::new(alloc);
+    for k in 0..count {
+        write!(text, "module m{k} ();\n")?;
+        for i in 0..each {
+            if k + 1 < count {
+                let next = k + 1;
+                write!(text, "  m{next} i{i} ();\n")?;
+            }
+        }
+        text.push_str("endmodule\n")?;
+    }
+    Ok(text)
+}
+
+/// How many modules, how many instances of the next each has, and the line.
+const CHAINS: &[(u32, u32, &str)] = &[
+    (64, 1, "F99 NotYet 4"),
+    (65, 1, "F22 Limit 4"),
+    (64, 2, "F22 Limit 3"),
+];
+
+#[test]
+fn refuses_by_size(rt: HostRuntime) -> Result<(), Fail> {
+    for (count, each, line) in CHAINS {
+        let netlist = chain(rt.alloc(), *count, *each)?;
+        let got = ran(rt.alloc(), [&netlist, INTENT, LIBRARY])?;
+        let want = wanted(rt.alloc(), line)?;
+        assert_eq!(rt; got.as_str(), want.as_str());
+    }
+    Ok(())
+}
 
 /// A run on changed texts.
 fn ran_changed(alloc: Global, changes: [Change; 3]) -> Result<String, Fail> {

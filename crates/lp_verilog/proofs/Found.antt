@@ -57,7 +57,7 @@ same_token names final (Named text) g =
     some_there o k e = rw e refl
 
 -- where a token is read, less is left than before it
-shorter : (fresh : Bool) (rest : List ℕ) (p : Piece) → piece_of fresh rest ≡ Some p → length (behind p rest) < length rest
+pub shorter : (fresh : Bool) (rest : List ℕ) (p : Piece) → piece_of fresh rest ≡ Some p → length (behind p rest) < length rest
 shorter fresh [] p e = absurd cc
 shorter fresh (b ∷ rest) p e = omega (arith, length-drop (max p.size 1) (drop p.gap (b ∷ rest)), length-drop p.gap (b ∷ rest))
 

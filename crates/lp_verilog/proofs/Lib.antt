@@ -23,4 +23,5 @@ pub mod Phases
 pub mod Phased
 pub mod Numbers
 pub mod Standing
+pub mod Counted
 mod Computed

@@ -1,6 +1,6 @@
 -- Words of the laws about what texts denote.
 use Rattle.std.specs.Prelude.{◌≡◌, ◌≤◌, ℕ, true, List, length, map}
-use Rattle.std.specs.List.{flat_map}
+use Rattle.std.specs.List.{flat_map, All}
 use Rattle.lp_text.specs.declared.shelf.TheConstants.{LIMIT}
 use Rattle.lp_text.specs.Texts.{distinct}
 use Rattle.lp_model.specs.declared.fault.refusal.Fault.{Fault}
@@ -33,3 +33,11 @@ AreNumbered names modules = numbers_below (length names) (flat_map module_number
 -- what a text denotes over one table is seen alike over another
 abbrev pub SeenAlike : List (List ℕ) → List (List ℕ) → List ℕ → List Module → Type 0
 SeenAlike old new text modules = Denotes old text modules → map (module_view new) modules ≡ map (module_view old) modules
+
+-- a module has at most so many ports, and at most so many assigns
+pub record HasFew (n : ℕ) (m : Module) : Type 0 where
+  pub ports : length m.ports ≤ n
+  pub assigns : length m.assigns ≤ n
+
+abbrev pub AreFew : ℕ → List Module → Type 0
+AreFew n modules = All (HasFew n) modules

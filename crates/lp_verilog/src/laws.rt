@@ -1,5 +1,5 @@
 //! Laws about the definitions alone: each is the clause of a function that does nothing.
-ghost use Rattle.std.specs.Prelude.{◌≡◌, ℕ, List, true, ◌++◌};
+ghost use Rattle.std.specs.Prelude.{◌≡◌, ℕ, List, true, ◌++◌, length};
 ghost use Rattle.lp_text.specs.Texts.{Grown};
 ghost use Rattle.lp_model.specs.declared.fault.refusal.Fault.{Fault};
 ghost use Rattle.lp_model.specs.declared.netlist.Module.{Module};
@@ -9,7 +9,7 @@ ghost use Rattle.lp_verilog.specs.Denotes.{Denotes, LeadsTo};
 ghost use Rattle.lp_verilog.specs.Places.{IsNetlist, IsStuck};
 ghost use Rattle.lp_verilog.specs.Reads.{Reads};
 ghost use Rattle.lp_verilog.specs.Reading.{Outcome};
-ghost use Rattle.lp_verilog.specs.Laws.{OverTable, SameLine, NotBoth, AreNumbered, SeenAlike};
+ghost use Rattle.lp_verilog.specs.Laws.{OverTable, SameLine, NotBoth, AreNumbered, SeenAlike, AreFew};
 
 /// A text denotes at most one netlist, by the texts of its names.
 pub fn one_netlist()
@@ -39,6 +39,11 @@ pub fn stuck_reads_nothing()
 /// The numbers in what a text denotes lie below the count of the names.
 pub fn numbers_stand()
     ensures { (names : List (List ℕ)) (text : List ℕ) (modules : List Module) → OverTable names (Denotes names text modules → AreNumbered names modules) }
+{}
+
+/// A module of a text has at most as many ports, and at most as many assigns, as the text has bytes.
+pub fn parts_are_few()
+    ensures { (names : List (List ℕ)) (text : List ℕ) (modules : List Module) → Denotes names text modules → AreFew (length text) modules }
 {}
 
 /// What a text denotes stays the same when the table of its names grows.

@@ -7,7 +7,7 @@ mod netlist;
 mod reading;
 
 pub use laws::{
-    grown_names_keep_readings, numbers_stand, one_line, one_netlist, one_outcome,
+    grown_names_keep_readings, numbers_stand, one_line, one_netlist, one_outcome, parts_are_few,
     refused_reads_nothing,
 };
 pub use netlist::read_netlist;

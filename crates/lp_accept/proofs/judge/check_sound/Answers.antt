@@ -27,7 +27,7 @@ returns-then-looped c =
     let m = module_view names c.args.source.now in
     let loops = subst (λ b. OnTrue b ((power gnd : Name) (margin : ℕ) → is_single_module m ≡ true → are_read cells m ≡ true → is_fit cells m ≡ true → HasLoop (flat_of cells m power gnd margin))) c.if-looped.true c.in_ok-looped.ensures.looped in
     unsound {T = Unit {0}} (λ _. Sound cells m) cells m c.not_yet-then-looped.result c.not_yet-then-looped.ensures
-    (inr (sym c.in_ok-plain.ensures ∙ c.if-not-plain.false, λ power gnd margin. loops power gnd margin c.requires.single c.requires.read c.requires.fits.fits))
+    (inr (sym c.in_ok-plain.ensures ∙ c.if-not-plain.false, λ power gnd margin. loops power gnd margin c.requires.single c.requires.read c.requires.fits))
 
 pub returns : goal.returns
 returns c =
@@ -37,5 +37,5 @@ returns c =
     let ordered = subst (λ b. OnFalse b ((power gnd : Name) (margin : ℕ) → is_single_module m ≡ true → are_read cells m ≡ true → is_fit cells m ≡ true → IsOrdered (flat_of cells m power gnd margin))) c.if-looped.false c.in_ok-looped.ensures.ordered in
     record {
       plain = sym c.in_ok-plain.ensures ∙ c.if-not-plain.false;
-      ordered = λ power gnd margin. ordered power gnd margin c.requires.single c.requires.read c.requires.fits.fits;
+      ordered = λ power gnd margin. ordered power gnd margin c.requires.single c.requires.read c.requires.fits;
     }

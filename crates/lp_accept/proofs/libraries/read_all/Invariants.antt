@@ -1,4 +1,4 @@
-use Rattle.std.proofs.Common.{◌≡◌, ℕ, ◌*◌, ◌≤◌, length, take}
+use Rattle.std.proofs.Common.{◌≡◌, ◌*◌, ◌≤◌, length, take}
 use Rattle.lp_accept.specs.Read.{AreGroups}
 use Rattle.lp_accept.proofs.libraries.read_all.Given as goal
 

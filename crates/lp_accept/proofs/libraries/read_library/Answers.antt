@@ -1,4 +1,4 @@
-use Rattle.std.proofs.Common.{◌≡◌, map, sym, subst}
+use Rattle.std.proofs.Common.{map, subst}
 use Rattle.lp_model.specs.GroupsView.{groups_view}
 use Rattle.lp_cells.specs.Cells.{IsLibrary, RefusesLibrary}
 use Rattle.lp_model.specs.LibraryView.{library_view}
