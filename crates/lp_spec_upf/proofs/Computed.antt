@@ -65,6 +65,11 @@ twice : failed (said (codes "set_retention R -retention_supply S -retention_supp
 unfolding encode
 twice = refl
 
+-- and by its own
+again : failed (said (codes "set_isolation I -location self -location parent")) ≡ Some (Syntax (at 32))
+unfolding encode
+again = refl
+
 -- an option that is not listed, with its values
 unlisted : failed (said (codes "create_supply_net N -resolve unresolved -reuse")) ≡ Some (Unsupported (at 21) (codes "-resolve"))
 unfolding encode
