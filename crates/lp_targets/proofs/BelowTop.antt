@@ -18,7 +18,8 @@ use Rattle.lp_targets.specs.declared.target.Target.{Target}
 use Rattle.lp_targets.specs.Children.{children}
 use Rattle.lp_targets.specs.Sizes.{in_module, IsResolved}
 use Rattle.lp_targets.proofs.Recursion.{same_place, read}
-use Rattle.lp_targets.proofs.Looping.{in_upward, count_upward, stands, count, in_module as child_in_module}
+use Rattle.lp_targets.proofs.Looping.{stands, count, in_module as child_in_module}
+use Rattle.lp_targets.proofs.Upward.{in_upward, count_upward}
 use Rattle.lp_targets.proofs.Together.{within, by_module}
 use Rattle.lp_targets.proofs.Summed.{never}
 

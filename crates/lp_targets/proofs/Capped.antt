@@ -19,7 +19,8 @@ use Rattle.lp_targets.specs.Targets.{module_of, AreTargets}
 use Rattle.lp_targets.specs.Children.{children_of, children}
 use Rattle.lp_targets.proofs.Looping.{count, stands}
 use Rattle.lp_targets.proofs.Recursion.{at_place, row_at, some_map}
-use Rattle.lp_targets.proofs.Search.{read_below, closed_children}
+use Rattle.lp_loops.proofs.Below.{read_below}
+use Rattle.lp_targets.proofs.Closed.{closed_children}
 use Rattle.lp_targets.proofs.Together.{by_module}
 
 -- one part up to the limit

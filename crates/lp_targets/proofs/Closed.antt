@@ -58,3 +58,7 @@ pub cells_within : (im ic : List ℕ) (ms : List Module) (cs all : List Cell) �
 cells_within im ic ms cs all is_cs is_ic rows is_rows =
     let count : length ic ≡ length all = ap length is_ic ∙ count_map (λ (x : Cell). x.name.0) cs ∙ ap length is_cs in
     subst (λ k. ReadsBelow k (cell_rows rows)) count (subst (λ (rs : List (List Target)). ReadsBelow (length ic) (cell_rows rs)) (sym is_rows) (all_cells_below im ic ms))
+
+pub closed_children : (rows : List (List Target)) (graph : List (List ℕ)) → graph ≡ children rows → ReadsBelow (length rows) (children rows) → ReadsBelow (length graph) graph
+closed_children rows graph e below =
+    subst (λ g. ReadsBelow (length g) g) (sym e) (subst (λ k. ReadsBelow k (children rows)) (sym (count_map children_of rows)) below)

@@ -11,7 +11,7 @@ use Rattle.lp_spec_faults.specs.Modules.{is_within, recursive}
 use Rattle.lp_targets.specs.declared.target.Target.{Target}
 use Rattle.lp_targets.specs.Targets.{AreTargets}
 use Rattle.lp_targets.specs.Children.{children}
-use Rattle.lp_targets.specs.Recursion.{IsFirstLooped}
+use Rattle.lp_loops.specs.Loops.{IsFirstLooped}
 use Rattle.lp_targets.proofs.Recursion.{first_none, loops}
 use Rattle.lp_targets.proofs.Looping.{stands, count, contains_itself}
 

@@ -3,18 +3,18 @@ mod Named
 mod Texts
 mod Marks
 mod Closed
-mod Recursion
-mod Looping
-mod Search
+pub mod Recursion
+pub mod Upward
+pub mod Looping
 mod FirstLooped
 mod Refused
-mod Together
+pub mod Together
 mod Capped
-mod Orders
-mod Summed
+pub mod Orders
+pub mod Summed
 mod Depths
 mod Owns
-mod BelowTop
+pub mod BelowTop
 mod OverLimits
 mod Stops
 mod Shaped

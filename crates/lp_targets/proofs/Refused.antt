@@ -16,7 +16,7 @@ use Rattle.lp_targets.specs.Structures.{structure_of}
 use Rattle.lp_targets.specs.Reports.{report_of, recursive_report}
 use Rattle.lp_targets.specs.Targets.{AreTargets}
 use Rattle.lp_targets.specs.Children.{children_of, children}
-use Rattle.lp_targets.specs.Recursion.{IsFirstLooped}
+use Rattle.lp_loops.specs.Loops.{IsFirstLooped}
 use Rattle.lp_targets.proofs.Closed.{count_map}
 use Rattle.lp_targets.proofs.Recursion.{no_recursion}
 use Rattle.lp_targets.proofs.FirstLooped.{first_place}

@@ -15,7 +15,8 @@ use Rattle.lp_targets.specs.declared.target.Target.{Target}
 use Rattle.lp_targets.specs.declared.target.Target.TheVariants.{OfModule, OfCell}
 use Rattle.lp_targets.specs.Targets.{module_of, AreTargets}
 use Rattle.lp_targets.specs.Children.{children_of, children}
-use Rattle.lp_targets.proofs.Looping.{in_upward, count_upward, count}
+use Rattle.lp_targets.proofs.Looping.{count}
+use Rattle.lp_targets.proofs.Upward.{in_upward, count_upward}
 use Rattle.lp_targets.proofs.Recursion.{at_place, row_at, some_map}
 
 sum_same : {A : Type 0} (f g : A → ℕ) (xs : List A) → ((x : A) → IsIn x xs → f x ≡ g x) → sum_by f xs ≡ sum_by g xs

@@ -9,7 +9,7 @@ use Rattle.lp_spec_faults.specs.Modules.{recursive, modules_in, together}
 use Rattle.lp_targets.specs.declared.target.Target.{Target}
 use Rattle.lp_targets.specs.Targets.{AreTargets}
 use Rattle.lp_targets.specs.Children.{children}
-use Rattle.lp_targets.specs.Recursion.{IsFirstLooped}
+use Rattle.lp_loops.specs.Loops.{IsFirstLooped}
 
 -- where the modules, whose names differ, have an order by what they contain, none contains itself
 abbrev pub OrderMeansNoRecursion : Type 0

@@ -4,7 +4,5 @@ pub mod Targets
 pub mod Numbered
 pub mod Marks
 pub mod Children
-pub mod Recursion
-pub mod Search
 pub mod Sizes
 pub mod Laws

@@ -73,8 +73,7 @@ fn shape_of(
 }
 
 /// What each instance of each module is of, the order of the modules, the top, and how much each module has, of modules
-/// whose names differ. Takes time and memory in proportion to the names, the netlist and the cells, but for a refusal
-/// of a module that contains itself, as in [`first_recursive`](crate::first_recursive).
+/// whose names differ. Takes time and memory in proportion to the names, the netlist and the cells.
 ///
 /// # Errors
 ///

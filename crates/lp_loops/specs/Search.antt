@@ -1,7 +1,7 @@
 -- A search along the reads of a graph for a way from a key, the root, back to itself, where no key before the root has one (own rule).
 use Rattle.std.specs.Prelude.{◌≡◌, ◌≢◌, ◌⊎◌, ◌≤◌, ◌<◌, ◌+◌, ℕ, Bool, true, false, List, length, sum_by, Contains, slice_index_or}
 use Rattle.lp_order.specs.Order.{Reads, Reaches}
-use Rattle.lp_targets.specs.declared.looped.Search.{Search}
+use Rattle.lp_loops.specs.declared.search.Search.{Search}
 
 abbrev pub is_met : List Bool → ℕ → Bool
 is_met met key = slice_index_or met key false

@@ -1,6 +1,6 @@
 use Rattle.std.proofs.Common.{arith}
-use Rattle.lp_targets.proofs.Search.{search-begun, search-popped, key-below, no_way_left}
-use Rattle.lp_targets.proofs.looped.reads_itself.Goals as goal
+use Rattle.lp_loops.proofs.SearchLaws.{search-begun, search-popped, key-below, no_way_left}
+use Rattle.lp_loops.proofs.search.reads_itself.Goals as goal
 
 pub loop-key-init : goal.loop-key-init
 loop-key-init c =

@@ -1,6 +1,7 @@
 use Rattle.std.proofs.Common.{length, ap, arith}
-use Rattle.lp_targets.proofs.Search.{following-back, following-next, following-over, read_below}
-use Rattle.lp_targets.proofs.looped.Search.follow.Goals as goal
+use Rattle.lp_loops.proofs.Below.{read_below}
+use Rattle.lp_loops.proofs.SearchLaws.{following-back, following-next, following-over}
+use Rattle.lp_loops.proofs.search.Search.follow.Goals as goal
 
 pub pass-requires : goal.pass-requires
 pass-requires c =

@@ -6,13 +6,10 @@ use Rattle.std.proofs.lemmas.Bool.{cases_lt, cases_eq, true≢false}
 use Rattle.std.proofs.lemmas.List.Sums.{sum_by-set}
 use Rattle.std.proofs.lemmas.List.{get_or_past, get_or-replicate, get_or_default, length-replicate, length_push, nil_from_length}
 use Rattle.std.proofs.lemmas.List.Elements.{Contains-get_or, Contains-push, Contains-push_cases, Contains-append_left}
-use Rattle.lp_order.specs.Order.{row_of, Reads, ReadsBelow, Reaches, one_read, more_reads, HasLoop}
+use Rattle.lp_order.specs.Order.{row_of, Reads, Reaches, one_read, more_reads, HasLoop}
 use Rattle.lp_order.proofs.OrderLaws.{Contains-first, Contains-behind, Contains-cons_cases, Reaches-within, Reaches-trans}
-use Rattle.lp_targets.specs.declared.target.Target.{Target}
-use Rattle.lp_targets.specs.Children.{children_of, children}
-use Rattle.lp_targets.proofs.Closed.{count_map}
-use Rattle.lp_targets.specs.Search.{is_met, IsPassed, IsSearch, still, keys_left, Follows}
-use Rattle.lp_targets.specs.declared.looped.Search.{Search}
+use Rattle.lp_loops.specs.Search.{is_met, IsPassed, IsSearch, still, keys_left, Follows}
+use Rattle.lp_loops.specs.declared.search.Search.{Search}
 
 -- only a key of the list was met
 pub met_within : (met : List Bool) (k : ℕ) → is_met met k ≡ true → k < length met
@@ -208,15 +205,6 @@ module _ (graph : List (List ℕ)) (root key : ℕ) (old now : Search) (n : ℕ)
         (λ b r. let at : get_or (row_of graph key) r.0 0 ≡ b = get_or_default (row_of graph key) r.0 0 b r.1 ∙ r.2 in subst (IsPassed root now.met.items) at (f.behind r.0 (omega (arith, r.1, all))));
     no_more = f.no_more;
   }
-
--- what a key of a graph reads is a key of it
-pub read_below : (graph : List (List ℕ)) (key n : ℕ) (items : List ℕ) → ReadsBelow (length graph) graph → key < length graph → items ≡ row_of graph key → n < length items → get_or items n 0 < length graph
-read_below graph key n items below h e inside =
-    subst (λ (row : List ℕ). get_or row n 0 < length graph) (sym e) (below key [] h n 0 (subst (λ (row : List ℕ). n < length row) e inside))
-
-pub closed_children : (rows : List (List Target)) (graph : List (List ℕ)) → graph ≡ children rows → ReadsBelow (length rows) (children rows) → ReadsBelow (length graph) graph
-closed_children rows graph e below =
-    subst (λ g. ReadsBelow (length g) g) (sym e) (subst (λ k. ReadsBelow k (children rows)) (sym (count_map children_of rows)) below)
 
 pub looped_more : (graph : List (List ℕ)) (n : ℕ) → ((b : ℕ) → b < n → Reaches graph b b → ⊥) → (Reaches graph n n → ⊥) → (b : ℕ) → b < n + 1 → Reaches graph b b → ⊥
 looped_more graph n before here b h r =

@@ -1,0 +1,4 @@
+pub mod Below
+pub mod Ways
+mod SearchLaws
+mod Rising
