@@ -48,24 +48,3 @@ module _ (texts : List (List ℕ)) (apart : distinct texts ≡ true) (cells : Li
   pub if_fit : {E : Type 0} (r : Result Bool E) (m : Module) → Below texts (module_numbers m) → IfOk r (λ b. b ≡ numbered.is_fit cells m) → IfOk r (λ b. b ≡ fits.is_fit (map (cell_view texts) cells) (module_view texts m))
   if_fit (Ok b) m below e = e ∙ sym (fit_same m below)
   if_fit (Err x) m below e = tt
-
-  -- ---- unknown targets
-
-  unknown_same : (m : Module) (xs : List Instance) → m.name.0 < length texts → Below texts (flat_map instance_numbers xs) → first (fits.is_unknown (map (cell_view texts) cells) (module_view texts m)) (map (instance_view texts) xs) ≡ option_map (instance_view texts) (first (λ (x : Instance). not (m.name.0 == x.target.0) && is_none (cell_numbered cells x.target.0)) xs)
-  unknown_same m [] l below = refl
-  unknown_same m (x ∷ xs) l below =
-      let here = below-left (length texts) (instance_numbers x) (flat_map instance_numbers xs) below in
-      let behind = below-right (length texts) (instance_numbers x) (flat_map instance_numbers xs) below in
-      let target = target_below texts apart x here in
-      let cell = ap is_none (cell_same texts apart cells x.target.0 target of_cells) ∙ none_same (cell_view texts) (cell_numbered cells x.target.0) in
-      (λ i. cond (not (same_name texts apart m.name.0 x.target.0 l target i) && cell i) (Some (instance_view texts x)) (unknown_same m xs l behind i))
-      ∙ some_if (instance_view texts) (not (m.name.0 == x.target.0) && is_none (cell_numbered cells x.target.0)) x (first (λ (y : Instance). not (m.name.0 == y.target.0) && is_none (cell_numbered cells y.target.0)) xs)
-
-  copied : (r : Option (Bor Instance)) → option_map (λ x. instance_view texts x.now) r ≡ option_map (instance_view texts) (option_copied r)
-  copied None = refl
-  copied (Some x) = refl
-
-  pub unknown : (m : Module) (r : Option (Bor Instance)) → Below texts (module_numbers m) → option_copied r ≡ first (λ (x : Instance). not (m.name.0 == x.target.0) && is_none (cell_numbered cells x.target.0)) m.instances → option_map (λ x. instance_view texts x.now) r ≡ fits.first_unknown (map (cell_view texts) cells) (module_view texts m)
-  unknown m r below e =
-      copied r ∙ ap (option_map (instance_view texts)) e
-      ∙ sym (unknown_same m m.instances (below-head (length texts) m.name.0 _ below) (instances_below m below))

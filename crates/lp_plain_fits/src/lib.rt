@@ -7,8 +7,6 @@ mod joined;
 mod nets;
 mod single;
 mod taken;
-mod targets;
 
 pub use fit::is_fit;
 pub use single::is_single;
-pub use targets::unknown_target;

@@ -17,15 +17,6 @@ use Rattle.lp_vwrite.specs.Sound.{is_read_module}
 abbrev pub cell_named : List CellView → Name → Option CellView
 cell_named cells n = first (λ (c : CellView). bytes_eq c.name n) cells
 
--- ---- targets
-
--- the target of the instance is no module and no cell
-abbrev pub is_unknown : List CellView → ModuleView → InstanceView → Bool
-is_unknown cells m x = not (bytes_eq m.name x.target) && is_none (cell_named cells x.target)
-
-abbrev pub first_unknown : List CellView → ModuleView → Option InstanceView
-first_unknown cells m = first (is_unknown cells m) m.instances
-
 -- ---- cells
 
 -- a pin that wants another supply than the primary one, or gives one
