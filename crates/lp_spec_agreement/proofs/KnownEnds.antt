@@ -220,16 +220,16 @@ module _ (p : Project) (good : IsFaultless p) (modules : List ModuleView) (real 
   abbrev at_end : Placed → Name → End
   at_end a v = end_at_pin (netlist_of p modules) (fuel_of (netlist_of p modules)) a.path a.instance v
 
-  retained_end : (a : Placed) → IsIn a (cell_instances p.structure) → (c : CellView) → cell_of W a ≡ Some c → IsSoundCell c → (of : TakesPlace p good modules real a c) (t : Strategy) → retention p.intent a.path a.instance ≡ Some t
-      → RegisterPins of.source (primary_at p a.path) (functions_of p t.supply) t.save t.restore c → (q : PinView) → IsIn q c.pins → is_input_pin q ≡ true → (b : Bool) → is_retention_pin q ≡ b → KnownEnd (at_end a q.name)
-  retained_end a h c e sound of t rt reg q hq input true is =
-      let end = retention_end p good modules real a h t rt c e q hq is in
+  retained_end : (a : Placed) → IsIn a (cell_instances p.structure) → (c : CellView) → cell_of W a ≡ Some c → IsSoundCell c → (of : TakesPlace p good modules real a c) → is_some of.source.state ≡ true → (t : Strategy)
+      → retention p.intent a.path a.instance ≡ Some t → RegisterPins of.source (primary_at p a.path) (functions_of p t.supply) t.save t.restore c → (q : PinView) → IsIn q c.pins → is_input_pin q ≡ true → (b : Bool) → is_retention_pin q ≡ b → KnownEnd (at_end a q.name)
+  retained_end a h c e sound of state t rt reg q hq input true is =
+      let end = retention_end p good modules real a h of.source of.is_source state t rt c e q hq is in
       let same : end.pin ≡ q = some_same end.is_pin in
       inl (end.node, ap (λ (r : PinView). at_end a r.name) (sym same) ∙ end.end)
     where
       some_same : {r : PinView} → Some q ≡ Some r → r ≡ q
       some_same f = cc
-  retained_end a h c e sound of t rt reg q hq input false is =
+  retained_end a h c e sound of state t rt reg q hq input false is =
       let pin = plain_pin of.source c reg.exactly sound q hq is in
       known_some (node_at_pin p.structure a.path a.instance pin.pin.name) (at_end a q.name)
       (ap (at_end a) (sym pin.name) ∙ source_end p good modules real a h of.source of.is_source pin.pin pin.among (input_as pin.pin q pin.same input))
@@ -242,11 +242,11 @@ module _ (p : Project) (good : IsFaultless p) (modules : List ModuleView) (real 
   source_known a h c e sound of q hq input None rt taken =
       let same = same_cell p good modules real a of.source c of.is_source e taken in
       same_end_of a h c (of.is_source ∙ ap (λ z. Some z) same) q hq input
-  source_known a h c e sound of q hq input (Some t) rt taken = by (is_some of.source.state) taken
+  source_known a h c e sound of q hq input (Some t) rt taken = by (is_some of.source.state) refl taken
     where
-      by : (b : Bool) → (if b then register_fits of.source (primary_at p a.path) (functions_of p t.supply) t.save t.restore c else bytes_eq of.source.name c.name) ≡ true → KnownEnd (at_end a q.name)
-      by true g = retained_end a h c e sound of t rt (register_pins of.source (primary_at p a.path) (functions_of p t.supply) t.save t.restore c g) q hq input (is_retention_pin q) refl
-      by false g = let same = same_cell p good modules real a of.source c of.is_source e g in same_end_of a h c (of.is_source ∙ ap (λ z. Some z) same) q hq input
+      by : (b : Bool) → is_some of.source.state ≡ b → (if b then register_fits of.source (primary_at p a.path) (functions_of p t.supply) t.save t.restore c else bytes_eq of.source.name c.name) ≡ true → KnownEnd (at_end a q.name)
+      by true state g = retained_end a h c e sound of state t rt (register_pins of.source (primary_at p a.path) (functions_of p t.supply) t.save t.restore c g) q hq input (is_retention_pin q) refl
+      by false state g = let same = same_cell p good modules real a of.source c of.is_source e g in same_end_of a h c (of.is_source ∙ ap (λ z. Some z) same) q hq input
 
   -- ---- operators and switches
 

@@ -1,8 +1,8 @@
 -- Where the wires at the input pins of the netlist's cells begin.
 use Rattle.std.proofs.Common.{◌≡◌, ◌⊎◌, ◌≤◌, ℕ, ◌+◌, Bool, true, false, ◌&&◌, ◌||◌, List, [], ◌∷◌, length, Option, Some, None, inl, inr, refl, sym, ap, ◌∙◌, subst, arith}
-use Rattle.std.specs.Prelude.{filter, if◌then◌else◌, option_and_then, slice_get}
+use Rattle.std.specs.Prelude.{filter, if◌then◌else◌, is_some, option_and_then, slice_get}
 use Rattle.std.specs.List.{list_all}
-use Rattle.std.proofs.lemmas.Bool.{and_parts, false≢true}
+use Rattle.std.proofs.lemmas.Bool.{and_parts, and_from, false≢true}
 use Rattle.lp_model.specs.declared.netlist.Direction.{Direction}
 use Rattle.lp_model.specs.declared.netlist.Direction.TheVariants.{Input, Output}
 use Rattle.lp_model.specs.declared.library.PinUse.{PinUse}
@@ -17,7 +17,7 @@ use Rattle.lp_spec_design.specs.Graph.{is_output_pin, top_outputs}
 use Rattle.lp_spec_design.specs.Intents.{Strategy}
 use Rattle.lp_spec_design.specs.Chains.{Clamp}
 use Rattle.lp_spec_design.specs.Winners.{IsIn}
-use Rattle.lp_spec_design.specs.Registers.{retention}
+use Rattle.lp_spec_design.specs.Registers.{retention, holds_state, is_retained_register}
 use Rattle.lp_spec_design.specs.Settled.{node_at_pin}
 use Rattle.lp_spec_pins.specs.Pins.{is_input_pin, is_data, input_for, only}
 use Rattle.lp_spec_fit.specs.Fits.{is_iso_data, is_iso_enable, is_switch_pin, is_retention_pin, retention_pins, one_output}
@@ -25,7 +25,7 @@ use Rattle.lp_spec_realises.specs.Projects.{Project}
 use Rattle.lp_spec_realises.specs.ProjectNetlists.{netlist_of}
 use Rattle.lp_spec_realises.specs.Operators.{OperatorAt, all_operators, SwitchAt, all_switches, Placement, placed_operator, placed_switch}
 use Rattle.lp_spec_realises.specs.Ends.{End, end_at_pin, intended, some_intended}
-use Rattle.lp_spec_realises.specs.Realises.{cell_of, passed_by, input_begins, inputs_begin, output_begins, data_pin, end_of_pin, data_intended, chain_follows, control_begins, enable_begins, switch_pin_begins, control_of, retention_begins, Realises}
+use Rattle.lp_spec_realises.specs.Realises.{cell_of, passed_by, input_begins, inputs_begin, output_begins, data_pin, end_of_pin, data_intended, chain_follows, control_begins, enable_begins, switch_pin_begins, control_of, retention_pins_begin, retention_begins, Realises}
 use Rattle.lp_spec_agreement.specs.Faultless.{IsFaultless}
 use Rattle.lp_spec_agreement.proofs.Apart.{all_in}
 use Rattle.lp_spec_agreement.proofs.Joined.{end-true}
@@ -227,11 +227,18 @@ module _ (p : Project) (good : IsFaultless p) (modules : List ModuleView) (real 
   abbrev switch_controls : Bool
   switch_controls = list_all (switch_pin_begins p W place steps) (all_switches p)
 
-  pub retention_end : (a : Placed) → IsIn a (cell_instances p.structure) → (t : Strategy) → retention p.intent a.path a.instance ≡ Some t → (c : CellView) → cell_of W a ≡ Some c
-      → (q : PinView) → IsIn q c.pins → is_retention_pin q ≡ true → ControlEnd a (control_of t q.use_of) (Some q)
-  retention_end a h t rt c e q hq is =
+  if-so : {b t : Bool} → b ≡ true → (if b then t else true) ≡ true → t ≡ true
+  if-so {b} {t} e h = sym (ap (λ z. if z then t else true) e) ∙ h
+
+  retained_register : (a : Placed) (s : CellView) → cell_of p.structure a ≡ Some s → is_some s.state ≡ true → (t : Strategy) → retention p.intent a.path a.instance ≡ Some t → is_retained_register p.structure p.intent a.path a.instance ≡ true
+  retained_register a s source state t rt = and_from _ _ (ap holds_state source ∙ state) (ap is_some rt)
+
+  pub retention_end : (a : Placed) → IsIn a (cell_instances p.structure) → (s : CellView) → cell_of p.structure a ≡ Some s → is_some s.state ≡ true → (t : Strategy) → retention p.intent a.path a.instance ≡ Some t
+      → (c : CellView) → cell_of W a ≡ Some c → (q : PinView) → IsIn q c.pins → is_retention_pin q ≡ true → ControlEnd a (control_of t q.use_of) (Some q)
+  retention_end a h s source state t rt c e q hq is =
       let all : retention_begins p W place steps a ≡ true = all_in (retention_begins p W place steps) a (cell_instances p.structure) (and_parts switch_controls _ (and_parts enables _ real.controls).1).1 h in
-      let here : list_all (λ (r : PinView). control_begins p W place steps a (control_of t r.use_of) (Some r)) (retention_pins c) ≡ true = rw (rt, e) at all in
+      let pins : retention_pins_begin p W place steps a (retention p.intent a.path a.instance) (cell_of W a) ≡ true = if-so (retained_register a s source state t rt) all in
+      let here : list_all (λ (r : PinView). control_begins p W place steps a (control_of t r.use_of) (Some r)) (retention_pins c) ≡ true = rw (rt, e) at pins in
       control_end a (control_of t q.use_of) (Some q) (all_in (λ (r : PinView). control_begins p W place steps a (control_of t r.use_of) (Some r)) q (retention_pins c) here (in_filter is_retention_pin c.pins q hq is))
 
   -- ---- operators

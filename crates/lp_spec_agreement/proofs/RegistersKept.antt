@@ -168,7 +168,7 @@ module _ (p : Project) (good : IsFaultless p) (modules : List ModuleView) (real 
       reads_controls = record {
         pins = λ q hq.
             let kept_pin = of-filter is_retention_pin q c.pins hq in
-            by_use q kept_pin.0 (all_in is_input_pin q (retention_pins c) retention_inputs hq) (retention_end p good modules real a h held.strategy held.is_strategy c f q kept_pin.0 kept_pin.1) q.use_of refl;
+            by_use q kept_pin.0 (all_in is_input_pin q (retention_pins c) retention_inputs hq) (retention_end p good modules real a h held.source held.is_source state held.strategy held.is_strategy c f q kept_pin.0 kept_pin.1) q.use_of refl;
         one = one_control;
       }
 

@@ -16,7 +16,7 @@ use Rattle.lp_spec_design.specs.Graph.{numbered, Reader, top_outputs}
 use Rattle.lp_spec_design.specs.Intents.{SupplySet, Origin, FromPort, FromSwitch, Strategy}
 use Rattle.lp_spec_design.specs.Domains.{domain_of, primary_of, way_of, node_before, supply_of_port}
 use Rattle.lp_spec_design.specs.Chains.{Operator, Clamp, Shift}
-use Rattle.lp_spec_design.specs.Registers.{retention}
+use Rattle.lp_spec_design.specs.Registers.{retention, is_retained_register}
 use Rattle.lp_spec_design.specs.Settled.{node_at_pin}
 use Rattle.lp_spec_pins.specs.Pins.{is_input_pin, is_data, only, input_for}
 use Rattle.lp_spec_network.specs.Pairs.{pairs_of}
@@ -171,12 +171,14 @@ control_of t (Retain Restore save restore) = option_and_then (λ x. Some x.0) t.
 control_of t (Retain Both save restore) = option_and_then (λ x. Some x.0) t.save
 control_of t _ = None
 
+abbrev pub retention_pins_begin : Project → Structure → Placement → ℕ → Placed → Option Strategy → Option CellView → Bool
+retention_pins_begin p w at fuel a (Some t) (Some c) = list_all (λ (q : PinView). control_begins p w at fuel a (control_of t q.use_of) (Some q)) (retention_pins c)
+retention_pins_begin p w at fuel a _ _ = true
+
+-- a strategy of retention has to do with registers alone
 abbrev pub retention_begins : Project → Structure → Placement → ℕ → Placed → Bool
-retention_begins p w at fuel a = by (retention p.intent a.path a.instance) (cell_of w a)
-  where
-    by : Option Strategy → Option CellView → Bool
-    by (Some t) (Some c) = list_all (λ (q : PinView). control_begins p w at fuel a (control_of t q.use_of) (Some q)) (retention_pins c)
-    by _ _ = true
+retention_begins p w at fuel a =
+    if is_retained_register p.structure p.intent a.path a.instance then retention_pins_begin p w at fuel a (retention p.intent a.path a.instance) (cell_of w a) else true
 
 abbrev pub controls_begin : Project → Structure → Placement → ℕ → Bool
 controls_begin p w at fuel =
