@@ -67,10 +67,10 @@ name_of_port q = q.name
 -- ---- a module
 
 module _ (w : Structure) (own : HasOwnNames w) (x : Path) (m : ModuleView) (e : module_at w x ≡ Some m) where
-  own_names : are_apart (names_in m) ≡ true
+  pub own_names : are_apart (names_in m) ≡ true
   own_names = of-all (λ (k : ModuleView). are_apart (names_in k)) m w.modules (other (are_apart (map (λ (k : ModuleView). k.name) w.modules)) (list_all (λ k. are_apart (names_in k)) w.modules) own.parts) (from-modules w x m e)
 
-  port-names : are_apart (map name_of_port m.ports) ≡ true
+  pub port-names : are_apart (map name_of_port m.ports) ≡ true
   port-names = apart-left (map name_of_port m.ports) (map (λ (n : NetView). n.name) m.nets ++ map (λ (y : InstanceView). y.name) m.instances) own_names
 
   instance-names : are_apart (map (λ (y : InstanceView). y.name) m.instances) ≡ true

@@ -1,2 +1,2 @@
-mod Differ
-mod Lists
+pub mod Differ
+pub mod Lists
