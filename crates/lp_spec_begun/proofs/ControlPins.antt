@@ -1,6 +1,6 @@
 -- Enables, switch pins and retention pins begin in the written netlist where their controls do.
-use Rattle.std.proofs.Common.{◌≡◌, ℕ, true, List, [], ◌++◌, map, Option, Some, None, inl, refl, sym, ap, ◌∙◌, subst}
-use Rattle.std.specs.Prelude.{codes, option_and_then, flat_map}
+use Rattle.std.proofs.Common.{◌≡◌, ℕ, Bool, true, false, ◌&&◌, List, ◌++◌, map, Option, Some, None, inl, refl, sym, ap, ◌∙◌, subst}
+use Rattle.std.specs.Prelude.{codes, is_some, if◌then◌else◌, option_and_then, flat_map}
 use Rattle.std.specs.List.{list_all}
 use Rattle.std.proofs.lemmas.Bool.{false≢true}
 use Rattle.lp_model.specs.declared.library.Action.{Action}
@@ -14,7 +14,7 @@ use Rattle.lp_spec_design.specs.Instances.{Placed, cell_instances}
 use Rattle.lp_spec_design.specs.Nodes.{fuel_of}
 use Rattle.lp_spec_design.specs.Intents.{Strategy}
 use Rattle.lp_spec_design.specs.Chains.{Operator, Clamp, Shift}
-use Rattle.lp_spec_design.specs.Registers.{retention}
+use Rattle.lp_spec_design.specs.Registers.{retention, holds_state, is_retained_register}
 use Rattle.lp_spec_design.specs.Reads.{both}
 use Rattle.lp_spec_design.specs.Winners.{IsIn}
 use Rattle.lp_spec_design.proofs.Members.{in-left, in-right, in-map, in-flat, of-filter}
@@ -22,11 +22,11 @@ use Rattle.lp_spec_pins.specs.Pins.{input_for}
 use Rattle.lp_spec_fit.specs.Fits.{is_iso_enable, is_switch_pin, is_retention_pin, retention_pins}
 use Rattle.lp_spec_realises.specs.Projects.{Project}
 use Rattle.lp_spec_realises.specs.Operators.{OperatorAt, all_operators, SwitchAt, all_switches, placed_operator}
-use Rattle.lp_spec_realises.specs.Implements.{Lists}
+use Rattle.lp_spec_realises.specs.Implements.{Lists, is_retained}
 use Rattle.lp_spec_realises.specs.Ends.{some_end, intended}
-use Rattle.lp_spec_realises.specs.Realises.{cell_of, operator_fits, control_of, control_begins, enable_begins, switch_pin_begins, retention_begins, controls_begin}
+use Rattle.lp_spec_realises.specs.Realises.{cell_of, operator_fits, control_of, control_begins, enable_begins, switch_pin_begins, retention_pins_begin, retention_begins, controls_begin}
 use Rattle.lp_spec_written.specs.Places.{Standing, Kept, Switching, plan, with_number}
-use Rattle.lp_spec_written.specs.Supplies.{kept_at, or_cell}
+use Rattle.lp_spec_written.specs.Supplies.{kept_at}
 use Rattle.lp_spec_written.specs.Routes.{Route, routes, to_instance, enable_of, node_in, some_control_bits}
 use Rattle.lp_spec_written.specs.Written.{Additions, additions}
 use Rattle.lp_spec_hub.specs.Entries.{HasItsCells}
@@ -43,7 +43,7 @@ use Rattle.lp_spec_begun.specs.Begun.{HasWires, HasPins, HasControlNets}
 use Rattle.lp_spec_begun.specs.Laws.{ControlsBegin}
 use Rattle.lp_spec_begun.proofs.Ends.{end-is}
 use Rattle.lp_spec_begun.proofs.CellInstances.{IsCellInstance, is-cell-instance}
-use Rattle.lp_spec_begun.proofs.Registers.{is-register, register-fits}
+use Rattle.lp_spec_begun.proofs.Registers.{is-register, register-fits, not-retained}
 use Rattle.lp_spec_begun.proofs.Fits.{enable-of-clamp, fits-switch}
 use Rattle.lp_spec_begun.proofs.Inputs.{Stands, its-cell, its-stand}
 use Rattle.lp_spec_begun.proofs.OperatorCells.{IsOperator, is-operator, enable-pin}
@@ -119,12 +119,30 @@ enable-clamp p l w q t i e = rw (e) refl
 enable-shift : (p : Project) (l : Lists) (w : Structure) (q : OperatorAt) (t a b : ℕ) → q.operator ≡ Shift t a b → enable_begins p w (placement_of p l) (fuel_of w) q ≡ true
 enable-shift p l w q t a b e = rw (e) refl
 
-retention-some : (p : Project) (l : Lists) (w : Structure) (a : Placed) (t : Strategy) (c : CellView) → retention p.intent a.path a.instance ≡ Some t → cell_of w a ≡ Some c
-    → retention_begins p w (placement_of p l) (fuel_of w) a ≡ list_all (λ (q : PinView). control_begins p w (placement_of p l) (fuel_of w) a (control_of t q.use_of) (Some q)) (retention_pins c)
-retention-some p l w a t c e f = rw (e) (rw (f) refl)
+-- a register with retention, by its cell
+state-of : (o : Option CellView) → holds_state o ≡ is_some (option_and_then (λ (c : CellView). c.state) o)
+state-of None = refl
+state-of (Some c) = refl
 
-retention-none : (p : Project) (l : Lists) (w : Structure) (a : Placed) → retention p.intent a.path a.instance ≡ None → retention_begins p w (placement_of p l) (fuel_of w) a ≡ true
-retention-none p l w a e = rw (e) refl
+both-ways : (a b : Bool) → (a && b) ≡ (b && a)
+both-ways true true = refl
+both-ways true false = refl
+both-ways false true = refl
+both-ways false false = refl
+
+retained-is : (p : Project) (a : Placed) → is_retained_register p.structure p.intent a.path a.instance ≡ is_retained p a
+retained-is p a =
+    ap (λ b. b && is_some (retention p.intent a.path a.instance)) (state-of (cell_of p.structure a))
+    ∙ both-ways (is_some (option_and_then (λ (c : CellView). c.state) (cell_of p.structure a))) (is_some (retention p.intent a.path a.instance))
+
+retention-some : (p : Project) (l : Lists) (w : Structure) (a : Placed) (t : Strategy) (c : CellView) → is_retained p a ≡ true → retention p.intent a.path a.instance ≡ Some t → cell_of w a ≡ Some c
+    → retention_begins p w (placement_of p l) (fuel_of w) a ≡ list_all (λ (q : PinView). control_begins p w (placement_of p l) (fuel_of w) a (control_of t q.use_of) (Some q)) (retention_pins c)
+retention-some p l w a t c r e f =
+    ap (λ b. if b then retention_pins_begin p w (placement_of p l) (fuel_of w) a (retention p.intent a.path a.instance) (cell_of w a) else true) (retained-is p a ∙ r)
+    ∙ (ap (λ o. retention_pins_begin p w (placement_of p l) (fuel_of w) a o (cell_of w a)) e ∙ ap (retention_pins_begin p w (placement_of p l) (fuel_of w) a (Some t)) f)
+
+retention-none : (p : Project) (l : Lists) (w : Structure) (a : Placed) → is_retained p a ≡ false → retention_begins p w (placement_of p l) (fuel_of w) a ≡ true
+retention-none p l w a r = ap (λ b. if b then retention_pins_begin p w (placement_of p l) (fuel_of w) a (retention p.intent a.path a.instance) (cell_of w a) else true) (retained-is p a ∙ r)
 
 module _ (sound : RoutesAreSound) (come : RoutesCome) (ends : EndsAsWired) (whole : WholePlan) (p : Project) (l : Lists) (w : Structure) (h : HasWires p l w) (pins : HasPins p l) (controls : HasControlNets p l) where
   abbrev a : Additions
@@ -183,24 +201,15 @@ module _ (sound : RoutesAreSound) (come : RoutesCome) (ends : EndsAsWired) (whol
         begins-with p l w at_path (control_of k.strategy q.use_of) (Some q) control.0 q control.1 refl
         (end-is _ (intended p w (placement_of p l) control.0) (ap (some_end w (fuel_of w)) pin ∙ end))
 
-    retention-pin : (o : Option Kept) (t : Option Strategy) → kept_at (plan p l) at_path ≡ o → retention p.intent at_path.path at_path.instance ≡ t → retention_begins p w (placement_of p l) (fuel_of w) at_path ≡ true
-    retention-pin o None e f = retention-none p l w at_path f
-    retention-pin None (Some t) e f =
-        let none : retention_pins stands.cell ≡ [] = controls.plain at_path stands.cell t (subst (λ z. IsIn z (cell_instances p.structure)) i.is there) e f (sym (ap (or_cell (cell_of p.structure at_path)) e) ∙ stands.is) in
-        retention-some p l w at_path t stands.cell f cell-there
-        ∙ ap (list_all (λ (q : PinView). control_begins p w (placement_of p l) (fuel_of w) at_path (control_of t q.use_of) (Some q))) none
-    retention-pin (Some k) (Some t) e f =
+    retention-pin : (o : Option Kept) → kept_at (plan p l) at_path ≡ o → retention_begins p w (placement_of p l) (fuel_of w) at_path ≡ true
+    retention-pin None e = retention-none p l w at_path (not-retained p l (cells-are-there p l h.order.cells).0 at_path (subst (λ z. IsIn z (cell_instances p.structure)) i.is there) e)
+    retention-pin (Some k) e =
         let is = is-register p l at_path k e in
-        let same : k.strategy ≡ t = inside (sym is.strategy ∙ f) in
-        retention-some p l w at_path t stands.cell f cell-there
-        ∙ all-of (λ (q : PinView). control_begins p w (placement_of p l) (fuel_of w) at_path (control_of t q.use_of) (Some q)) (retention_pins stands.cell)
-        (λ q g. ap (λ (v : Strategy). control_begins p w (placement_of p l) (fuel_of w) at_path (control_of v q.use_of) (Some q)) (sym same) ∙ kept-pins k e q g)
-      where
-        inside : {u v : Strategy} → Some u ≡ Some v → u ≡ v
-        inside r = cc
+        retention-some p l w at_path k.strategy stands.cell is.retained is.strategy cell-there
+        ∙ all-of (λ (q : PinView). control_begins p w (placement_of p l) (fuel_of w) at_path (control_of k.strategy q.use_of) (Some q)) (retention_pins stands.cell) (kept-pins k e)
 
     pub its-retention : retention_begins p w (placement_of p l) (fuel_of w) place ≡ true
-    its-retention = ap (retention_begins p w (placement_of p l) (fuel_of w)) i.is ∙ retention-pin (kept_at (plan p l) at_path) (retention p.intent at_path.path at_path.instance) refl refl
+    its-retention = ap (retention_begins p w (placement_of p l) (fuel_of w)) i.is ∙ retention-pin (kept_at (plan p l) at_path) refl
 
   -- ---- all of them
 

@@ -1,20 +1,17 @@
 -- What the laws of this crate ask of a written netlist and of what is written (own rule).
-use Rattle.std.specs.Prelude.{◌≡◌, ℕ, true, [], Some, None, Option, is_some, slice_get}
+use Rattle.std.specs.Prelude.{◌≡◌, ℕ, true, Some, None, Option, is_some, slice_get}
 use Rattle.lp_model.specs.NetlistView.{PortView, InstanceView, ModuleView}
 use Rattle.lp_model.specs.LibraryView.{CellView}
 use Rattle.lp_spec_design.specs.Keys.{Path}
 use Rattle.lp_spec_design.specs.Netlists.{Structure, cell_named, module_at}
-use Rattle.lp_spec_design.specs.Instances.{Placed, cell_instances}
 use Rattle.lp_spec_design.specs.Nodes.{HasFuel}
-use Rattle.lp_spec_design.specs.Intents.{Strategy, SupplySet}
+use Rattle.lp_spec_design.specs.Intents.{SupplySet}
 use Rattle.lp_spec_design.specs.Chains.{Clamp}
-use Rattle.lp_spec_design.specs.Registers.{retention}
-use Rattle.lp_spec_fit.specs.Fits.{retention_pins}
 use Rattle.lp_spec_design.specs.Winners.{IsIn}
 use Rattle.lp_spec_realises.specs.Projects.{Project, network_of}
 use Rattle.lp_spec_realises.specs.ProjectNetlists.{are_apart}
 use Rattle.lp_spec_realises.specs.Operators.{OperatorAt, all_operators, SwitchAt, all_switches}
-use Rattle.lp_spec_realises.specs.Realises.{cell_of, outer_supply}
+use Rattle.lp_spec_realises.specs.Realises.{outer_supply}
 use Rattle.lp_spec_realises.specs.Tops.{top_ports}
 use Rattle.lp_spec_faults.specs.Lines.{first_of}
 use Rattle.lp_spec_faults.specs.Modules.{unfit_cell}
@@ -29,7 +26,7 @@ use Rattle.lp_spec_hub.specs.Begins.{IsClosed}
 use Rattle.lp_spec_hub.specs.Whole.{IsOrderly}
 use Rattle.lp_spec_wired.specs.Contents.{IsWrittenAt}
 use Rattle.lp_spec_wired.specs.Laws.{done_of}
-use Rattle.lp_spec_written.specs.Supplies.{Use, uses, kept_at, cell_for}
+use Rattle.lp_spec_written.specs.Supplies.{Use, uses, cell_for}
 use Rattle.lp_spec_written_at.specs.Sources.{HasFewAdditions, HasControls, cell_names, HasFreePins}
 use Rattle.lp_spec_driven.specs.Sound.{IsProper}
 use Rattle.lp_spec_wires.specs.Standing.{is_wire, AllStand}
@@ -58,23 +55,12 @@ pub record HasPins (p : Project) (l : Lists) : Type 0 where
   pub operators : (o : Standing) → IsIn o (plan p l).operators → are_apart (cell_names o.cell) ≡ true
   pub switches : (s : Switching) → IsIn s (plan p l).switches → are_apart (cell_names s.cell) ≡ true
 
--- a cell of the source that stands by itself has no retention pins where a strategy retains
-abbrev pub HasPlainCells : Project → Lists → Type 0
-HasPlainCells p l =
-    (a : Placed) (c : CellView) (t : Strategy)
-    → IsIn a (cell_instances p.structure)
-    → kept_at (plan p l) a ≡ None
-    → retention p.intent a.path a.instance ≡ Some t
-    → cell_of p.structure a ≡ Some c
-    → retention_pins c ≡ []
-
 -- what is led to pins: controls of strategies are declared, none that is led is the outer side of a port, each clamp has one,
--- cells that stand by themselves have no retention pins, and switches have scopes
+-- and switches have scopes
 pub record HasControlNets (p : Project) (l : Lists) : Type 0 where
   pub declared : HasControls p
   pub inside : (r : Route) → IsIn r (routes p (plan p l)) → is_control r.0 ≡ true
   pub enables : (q : OperatorAt) (t i : ℕ) → IsIn q (all_operators p) → q.operator ≡ Clamp t i → is_some (enable_of p q.operator) ≡ true
-  pub plain : HasPlainCells p l
   pub scopes : (x : SwitchAt) → IsIn x (all_switches p) → is_some (module_at p.structure (l.scope_of_switch x.origin)) ≡ true
 
 -- a supply set is there, and so are its origins

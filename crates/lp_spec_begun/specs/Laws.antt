@@ -15,7 +15,7 @@ use Rattle.lp_spec_wired.specs.Names.{placement_of}
 use Rattle.lp_spec_driven.specs.Sound.{IsProper}
 use Rattle.lp_spec_wires.specs.Standing.{HasPlaces}
 use Rattle.lp_spec_proper.specs.Insertable.{IsInsertable, IsWithinLimits}
-use Rattle.lp_spec_begun.specs.Begun.{HasWires, HasPins, HasPlainCells, HasControlNets, HasSupplies}
+use Rattle.lp_spec_begun.specs.Begun.{HasWires, HasPins, HasControlNets, HasSupplies}
 
 -- a netlist of the written content has its wires, where what is added is proper and stands in instances, and no way back is longer than there are nodes
 abbrev pub ContentHasWires : Type 0
@@ -62,12 +62,11 @@ BeginsAsIntended =
     → BeginsThroughout p l w
 
 -- so of a project that is read and has no fault, within limits, a netlist of the written content begins throughout as it has to,
--- where no way back is longer than there are nodes and cells that stand by themselves have no retention pins
+-- where no way back is longer than there are nodes
 abbrev pub InsertableBegins : Type 0
 InsertableBegins =
     (p : Project) (l : Lists) (switch_command : ℕ → ℕ) (w : Structure)
     → IsRead p → IsInsertable p l switch_command → IsWithinLimits p l
     → IsWrittenAt p (additions p l) w
     → HasFuel w
-    → HasPlainCells p l
     → BeginsThroughout p l w

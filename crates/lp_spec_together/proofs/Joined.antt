@@ -26,8 +26,8 @@ use Rattle.lp_spec_written_at.proofs.CellsApart.{cells-whole}
 use Rattle.lp_spec_written_at.proofs.Chosen.{is-as-chosen}
 use Rattle.lp_spec_shared.proofs.Written.{shared-at, shared-reached, shared-apart}
 use Rattle.lp_spec_proper.specs.Insertable.{IsInsertable, IsWithinLimits}
-use Rattle.lp_spec_together.specs.Missing.{HasWrittenContent, IsWired}
-use Rattle.lp_spec_together.specs.Laws.{WrittenHasContent, SharedHasContent, ContentImplements, ContentShowsTheSame, WrittenImplements, SharedImplements, ShowsTheSame}
+use Rattle.lp_spec_together.specs.Content.{HasWrittenContent, IsWired}
+use Rattle.lp_spec_together.specs.Laws.{WrittenHasContent, SharedHasContent, ContentIsWired, ContentImplements, ContentShowsTheSame, WrittenImplements, SharedImplements, ShowsTheSame}
 use Rattle.lp_spec_together.proofs.Indices.{content_keeps_indices}
 use Rattle.lp_spec_proper.proofs.Free.{free, ready}
 use Rattle.lp_spec_together.proofs.Supplied.{realised_is_supplied}
@@ -78,22 +78,20 @@ module _ (p : Project) (l : Lists) (switch_command : ℕ → ℕ) (modules : Lis
   unfolding realises
   shows = agreement_by_indices p is_faultless modules realises (realised_is_supplied p is_faultless modules realises) (content_keeps_indices p (additions p l) modules content.at_paths)
 
-pub content_implements : WaysApart → CellsAreThere → ContentImplements
-content_implements ways cells p l switch_command modules read good within content wired =
-    implements p l switch_command modules read good within content wired (ways p read.netlist.names_apart) (cells p l good.cells)
+pub content_implements : WaysApart → CellsAreThere → ContentIsWired → ContentImplements
+content_implements ways cells wired p l switch_command modules read good within content =
+    implements p l switch_command modules read good within content (wired p l switch_command modules read good within content) (ways p read.netlist.names_apart) (cells p l good.cells)
 
-pub content_shows_the_same : WaysApart → CellsAreThere → ContentShowsTheSame
-content_shows_the_same ways cells p l switch_command modules read good within content wired =
-    shows p l switch_command modules read good within content wired (ways p read.netlist.names_apart) (cells p l good.cells)
+pub content_shows_the_same : WaysApart → CellsAreThere → ContentIsWired → ContentShowsTheSame
+content_shows_the_same ways cells wired p l switch_command modules read good within content =
+    shows p l switch_command modules read good within content (wired p l switch_command modules read good within content) (ways p read.netlist.names_apart) (cells p l good.cells)
 
-pub written_implements : WaysApart → CellsAreThere → WrittenImplements
-written_implements ways cells p l switch_command read good within wired =
-    let content = written_has_content p l switch_command read good within in
-    (content_implements ways cells p l switch_command (written p l) read good within content wired, content_shows_the_same ways cells p l switch_command (written p l) read good within content wired)
+pub written_implements : WrittenHasContent → ContentImplements → ContentShowsTheSame → WrittenImplements
+written_implements has implements_it shows_it p l switch_command read good within =
+    let content = has p l switch_command read good within in
+    (implements_it p l switch_command (written p l) read good within content, shows_it p l switch_command (written p l) read good within content)
 
-pub shared_implements : WaysApart → CellsAreThere → SharedImplements
-shared_implements ways cells p l switch_command read good within wired =
-    let content = shared_has_content p l switch_command read good within in (
-      content_implements ways cells p l switch_command (shared (written p l)) read good within content wired,
-      content_shows_the_same ways cells p l switch_command (shared (written p l)) read good within content wired,
-    )
+pub shared_implements : SharedHasContent → ContentImplements → ContentShowsTheSame → SharedImplements
+shared_implements has implements_it shows_it p l switch_command read good within =
+    let content = has p l switch_command read good within in
+    (implements_it p l switch_command (shared (written p l)) read good within content, shows_it p l switch_command (shared (written p l)) read good within content)

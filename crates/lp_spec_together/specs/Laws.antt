@@ -1,8 +1,6 @@
 -- The statements of the laws of this crate (own rule).
-use Rattle.std.specs.Prelude.{◌≡◌, ℕ, true, List, IsTrue}
-use Rattle.std.specs.List.{list_all}
+use Rattle.std.specs.Prelude.{◌≡◌, ℕ, true, List}
 use Rattle.lp_model.specs.NetlistView.{ModuleView}
-use Rattle.lp_spec_design.specs.Nodes.{nodes_of}
 use Rattle.lp_spec_design.specs.Settled.{Event}
 use Rattle.lp_spec_design.specs.Registers.{States}
 use Rattle.lp_spec_design.specs.Runs.{SameRegisters}
@@ -10,7 +8,7 @@ use Rattle.lp_spec_pins.specs.Alike.{RunsAlike}
 use Rattle.lp_spec_pins.specs.Pins.{PinEvent}
 use Rattle.lp_spec_pins.specs.Supplied.{is_supplied}
 use Rattle.lp_spec_realises.specs.Projects.{Project, design_of}
-use Rattle.lp_spec_realises.specs.ProjectNetlists.{netlist_of, has_single_source}
+use Rattle.lp_spec_realises.specs.ProjectNetlists.{netlist_of}
 use Rattle.lp_spec_realises.specs.Implements.{Lists}
 use Rattle.lp_spec_realises.specs.Surroundings.{powered_of, AreWithin, SameEvents}
 use Rattle.lp_spec_realises.specs.Realises.{Realises}
@@ -22,9 +20,8 @@ use Rattle.lp_spec_written.specs.Shared.{shared}
 use Rattle.lp_spec_written.specs.Written.{Additions, written}
 use Rattle.lp_spec_wired.specs.Contents.{IsWrittenAt}
 use Rattle.lp_spec_wired.specs.Names.{placement_of}
-use Rattle.lp_spec_begun.specs.Begun.{HasPlainCells}
 use Rattle.lp_spec_proper.specs.Insertable.{IsInsertable, IsWithinLimits}
-use Rattle.lp_spec_together.specs.Missing.{HasWrittenContent, IsWired}
+use Rattle.lp_spec_together.specs.Content.{HasWrittenContent, IsWired}
 
 -- a netlist that realises a project without faults has one supply for each power and ground pin
 abbrev pub RealisedIsSupplied : Type 0
@@ -46,22 +43,20 @@ SharedHasContent =
     → IsRead p → IsInsertable p l switch_command → IsWithinLimits p l
     → HasWrittenContent p l (shared (written p l))
 
--- a netlist of that content is wired, where no node has two sources and cells that stand by themselves have no retention pins
+-- a netlist of that content is wired: no node has two sources, no wire comes back, and everything begins where it has to
 abbrev pub ContentIsWired : Type 0
 ContentIsWired =
     (p : Project) (l : Lists) (switch_command : ℕ → ℕ) (modules : List ModuleView)
     → IsRead p → IsInsertable p l switch_command → IsWithinLimits p l
-    → HasPlainCells p l
     → HasWrittenContent p l modules
-    → IsTrue (list_all (has_single_source (netlist_of p modules)) (nodes_of (netlist_of p modules)))
     → IsWired p l modules
 
--- a netlist of that content implements its project, as far as it is wired
+-- so it implements its project
 abbrev pub ContentImplements : Type 0
 ContentImplements =
     (p : Project) (l : Lists) (switch_command : ℕ → ℕ) (modules : List ModuleView)
     → IsRead p → IsInsertable p l switch_command → IsWithinLimits p l
-    → HasWrittenContent p l modules → IsWired p l modules
+    → HasWrittenContent p l modules
     → Implements p l modules
 
 -- for all events within the rows and all states of the registers, which begin equal, the source under its intent and the netlist by its pins have one run each, and show the same
@@ -72,26 +67,24 @@ ShowsTheSame p l modules =
     → (states by_pins : States) → SameRegisters (design_of p) states by_pins
     → RunsAlike (design_of p) (powered_of p modules (placement_of p l)) events at_pins states by_pins
 
--- a netlist of the written content shows what the source shows, as far as it is wired
+-- and it shows what the source shows
 abbrev pub ContentShowsTheSame : Type 0
 ContentShowsTheSame =
     (p : Project) (l : Lists) (switch_command : ℕ → ℕ) (modules : List ModuleView)
     → IsRead p → IsInsertable p l switch_command → IsWithinLimits p l
-    → HasWrittenContent p l modules → IsWired p l modules
+    → HasWrittenContent p l modules
     → ShowsTheSame p l modules
 
--- together, for the netlist that is written: what is left to be shown is that it is wired
+-- the theorem of insertion: for each project that is read and has no fault, within limits, the netlist that is written implements it and shows what it shows
 abbrev pub WrittenImplements : Type 0
 WrittenImplements =
     (p : Project) (l : Lists) (switch_command : ℕ → ℕ)
     → IsRead p → IsInsertable p l switch_command → IsWithinLimits p l
-    → IsWired p l (written p l)
     → Implements p l (written p l) × ShowsTheSame p l (written p l)
 
--- and for the one with each content once, which is the netlist of an insertion
+-- and so does the one with each content once, which is the netlist of an insertion
 abbrev pub SharedImplements : Type 0
 SharedImplements =
     (p : Project) (l : Lists) (switch_command : ℕ → ℕ)
     → IsRead p → IsInsertable p l switch_command → IsWithinLimits p l
-    → IsWired p l (shared (written p l))
     → Implements p l (shared (written p l)) × ShowsTheSame p l (shared (written p l))

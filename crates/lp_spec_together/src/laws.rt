@@ -7,6 +7,7 @@ use lp_spec_data_wires::wires_stand;
 use lp_spec_hub::{operators_have_their_cells, ways_stand_apart};
 use lp_spec_proper::{additions_are_proper, additions_have_places, insertable_is_orderly};
 use lp_spec_realises::netlists_have_fuel;
+use lp_spec_sources::content_has_single_sources;
 
 /// A netlist that realises a project without faults has one supply for each power and ground pin.
 pub fn realised_is_supplied()
@@ -29,8 +30,8 @@ pub fn shared_has_content()
     ensures { SharedHasContent }
 {}
 
-/// A netlist of the written content is wired, where no node has two sources and cells of the source that stand by
-/// themselves have no retention pins where a strategy retains.
+/// A netlist of the written content is wired: no node has two sources, no wire comes back, and pins, outputs of the top,
+/// controls, supplies and net bits of the source begin where they have to.
 pub fn content_is_wired()
     ensures { ContentIsWired }
 {
@@ -40,16 +41,18 @@ pub fn content_is_wired()
     wires_stand();
     no_wire_comes_back();
     netlists_have_fuel();
+    content_has_single_sources();
     insertable_begins();
 }
 
-/// A netlist of the written content implements its project, as far as it is wired: it realises the project by the chosen
-/// cells in their places, and each net bit of the source can be found in it.
+/// So it implements its project: it realises the project by the chosen cells in their places, and each net bit of the
+/// source can be found in it.
 pub fn content_implements()
     ensures { ContentImplements }
 {
     ways_stand_apart();
     operators_have_their_cells();
+    content_is_wired();
 }
 
 /// So it shows what the source shows under its power intent.
@@ -58,22 +61,25 @@ pub fn content_shows_the_same()
 {
     ways_stand_apart();
     operators_have_their_cells();
+    content_is_wired();
 }
 
-/// Together, for the netlist that is written: it implements its project and shows what the source shows, as far as it is
-/// wired.
+/// The theorem of insertion. For each project that is read and of which no line of the table of faults holds that bears on
+/// an insertion, within limits, the netlist that is written implements the project, and for all events within the rows and
+/// all states of the registers it shows what the source shows under its power intent.
 pub fn written_implements()
     ensures { WrittenImplements }
 {
-    ways_stand_apart();
-    operators_have_their_cells();
+    written_has_content();
+    content_implements();
+    content_shows_the_same();
 }
 
-/// And for the netlist with each content once: it implements its project and shows what the source shows, as far as it is
-/// wired.
+/// And so does the netlist with each content once, which is the one that an insertion writes.
 pub fn shared_implements()
     ensures { SharedImplements }
 {
-    ways_stand_apart();
-    operators_have_their_cells();
+    shared_has_content();
+    content_implements();
+    content_shows_the_same();
 }

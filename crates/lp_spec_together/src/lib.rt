@@ -1,5 +1,5 @@
 //! The netlist that an insertion writes implements its project and shows what the source shows: the laws of insertion
-//! joined, with what is still to be shown of its wires as the fields of one record. Definitions and laws alone.
+//! joined. Definitions and laws alone.
 #![tactic(auto)]
 
 mod laws;

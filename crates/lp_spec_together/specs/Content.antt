@@ -1,4 +1,4 @@
--- What is written content, and what is still to be shown of the netlist that is written (own rule).
+-- What is written content, and what it is that a netlist of it is wired (own rule).
 use Rattle.std.specs.Prelude.{List, IsTrue}
 use Rattle.lp_model.specs.NetlistView.{ModuleView}
 use Rattle.lp_spec_design.specs.Nodes.{fuel_of}
@@ -21,7 +21,7 @@ pub record HasWrittenContent (p : Project) (l : Lists) (modules : List ModuleVie
   pub reached : IsReached (netlist_of p modules)
   pub names : IsTrue (has_names_apart modules)
 
--- what is still to be shown of it
+-- its wires begin where they have to
 pub record IsWired (p : Project) (l : Lists) (modules : List ModuleView) : Type 0 where
   -- each node has at most one source, and no net bit comes from itself by wires alone
   pub driven : IsDrivenOnce (netlist_of p modules)
