@@ -1,0 +1,5 @@
+mod Limits
+mod Lines
+mod Reading
+mod Whole
+mod Worked
