@@ -1,0 +1,16 @@
+pub mod Digits
+pub mod Names
+pub mod Declares
+pub mod Nets
+pub mod Texts
+pub mod From
+pub mod Named
+pub mod Ports
+pub mod Instances
+pub mod Assigns
+pub mod Modules
+pub mod Shared
+pub mod Counted
+pub mod Tables
+pub mod Read
+pub mod Whole
