@@ -1,0 +1,9 @@
+pub mod Seeing
+pub mod Running
+pub mod Joined
+pub mod Viewed
+pub mod Owned
+pub mod Orders
+pub mod Single
+pub mod Noted
+pub mod TwoDrivers

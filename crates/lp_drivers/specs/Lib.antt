@@ -1,0 +1,5 @@
+pub mod Seen
+pub mod Cells
+pub mod Table
+pub mod Ready
+pub mod Laws
