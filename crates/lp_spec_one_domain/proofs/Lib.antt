@@ -1,0 +1,9 @@
+mod Empty
+mod Limits
+mod Lines
+mod Reading
+mod Sources
+mod Whole
+mod Worked
+mod WorkedLines
+mod WorkedSource

@@ -1,0 +1,5 @@
+use Rattle.lp_spec_one_domain.proofs.WorkedLines.{is-met}
+use Rattle.lp_spec_one_domain.proofs.laws.one_domain_is_met.Goals as goal
+
+pub returns : goal.returns
+returns c = is-met c.one_domain_is_read.ensures c.one_domain_is_insertable.ensures c.one_domain_is_within_limits.ensures c.shared_implements.ensures

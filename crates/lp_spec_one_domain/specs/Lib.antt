@@ -1,0 +1,4 @@
+pub mod Laws
+pub mod Met
+pub mod OneDomain
+pub mod Taken
