@@ -11,7 +11,8 @@ use Rattle.lp_model.specs.declared.intent.DeclaredState.{DeclaredState}
 use Rattle.lp_model.specs.declared.intent.DeclaredState.TheVariants as declared
 use Rattle.lp_model.specs.declared.intent.RowState.{RowState}
 use Rattle.lp_model.specs.declared.intent.RowState.TheVariants as listed
-use Rattle.lp_spec_upf.specs.Commands.{option_in, same_option, words_of, elements_of}
+use Rattle.lp_upf_words.specs.Elements.{words_of, elements_of}
+use Rattle.lp_spec_upf.specs.Commands.{option_in, same_option}
 use Rattle.lp_spec_design.specs.Keys.{Name, Path, Node}
 use Rattle.lp_spec_design.specs.Netlists.{Structure, first}
 use Rattle.lp_spec_design.specs.Graph.{numbered, when}

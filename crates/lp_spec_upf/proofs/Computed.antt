@@ -149,3 +149,8 @@ row-long = refl
 row-unknown : failed (said (codes "add_pst_state R -pst T -state {N M}" ++ (10 ∷ codes "create_pst T -supplies {A}"))) ≡ None
 unfolding encode
 row-unknown = refl
+
+-- a location that the tool may choose
+location : failed (said (codes "set_level_shifter L -domain D -location automatic")) ≡ None
+unfolding encode
+location = refl

@@ -5,7 +5,8 @@ use Rattle.lp_text.specs.declared.place.Place.{Place}
 use Rattle.lp_model.specs.CommandsView.{CommandView}
 use Rattle.lp_upf_words.specs.Words.{DenotesList}
 use Rattle.lp_upf_words.proofs.Once as lower
-use Rattle.lp_spec_upf.specs.Commands.{Fault, Sense, elements_at, intent_of}
+use Rattle.lp_upf_words.specs.Elements.{elements_at}
+use Rattle.lp_spec_upf.specs.Commands.{Fault, Sense, intent_of}
 use Rattle.lp_spec_upf.specs.Intent.{Denotes, IsSense}
 use Rattle.lp_spec_upf.proofs.Same.{intent-same}
 

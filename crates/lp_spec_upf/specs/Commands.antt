@@ -1,12 +1,9 @@
 -- What the words of a UPF text say as commands, or its one fault (IEEE 1801-2015, clause 6; the subset is an own rule).
-use Rattle.std.specs.Prelude.{ℕ, zero, suc, ◌+◌, ◌*◌, ◌-◌, ◌==◌, Bool, true, false, not, ◌&&◌, ◌||◌, if◌then◌else◌, nat_lt, bytes_eq}
+use Rattle.std.specs.Prelude.{ℕ, zero, suc, ◌==◌, Bool, true, false, not, ◌&&◌, ◌||◌, if◌then◌else◌, nat_lt, bytes_eq}
 use Rattle.std.specs.Prelude.{List, [], ◌∷◌, ◌++◌, length, codes, Option, Some, None, Result, Ok, Err}
 use Rattle.std.specs.List.{list_all}
 use Rattle.lp_text.specs.Micros.{micros_of}
-use Rattle.lp_text.specs.Places.{past, past_byte}
 use Rattle.lp_text.specs.declared.place.Place.{Place}
-use Rattle.lp_model.specs.declared.upf.WordForm.{WordForm}
-use Rattle.lp_model.specs.declared.upf.WordForm.TheVariants as forms
 use Rattle.lp_model.specs.declared.upf.CommandWord.{CommandWord}
 use Rattle.lp_model.specs.declared.upf.CommandWord.TheVariants as commands
 use Rattle.lp_model.specs.declared.upf.OptionWord.{OptionWord}
@@ -14,9 +11,8 @@ use Rattle.lp_model.specs.declared.upf.OptionWord.TheVariants as options
 use Rattle.lp_model.specs.CommandsView.{WordView, OptionView, CommandView, command_text, option_text}
 use Rattle.lp_upf_words.specs.declared.mode.Stop.{Stop}
 use Rattle.lp_upf_words.specs.declared.mode.Stop.TheVariants as stops
-use Rattle.lp_upf_words.specs.Bytes.{list_kind_of}
+use Rattle.lp_upf_words.specs.Elements.{content_end, elements_of, words_of}
 use Rattle.lp_upf_words.specs.Words.{Outcome}
-use Rattle.lp_upf_words.specs.Reading.{read, start_at}
 use Rattle.lp_spec_upf.specs.Shapes.{Element, Any, Among, Voltage, Form, Closed, Rest, Needs, May, OffOr}
 use Rattle.lp_spec_upf.specs.Shapes.{Value, Flag, Name, OneOf, Clamp, Threshold, Listed, Need, Free, Always, Unless}
 use Rattle.lp_spec_upf.specs.Shapes.{OptionRule, NameRule, NoName, MayName, OneName, NameList, shape_of, all_commands}
@@ -52,43 +48,6 @@ first_after f [] = f
 first_after f (g ∷ faults) = first_after (earlier f g) faults
 
 -- ---- lists
-
--- the bytes of a text, where each was taken as the character with its code
-abbrev pub bytes_after : Option ℕ → List ℕ → List ℕ
-bytes_after lead [] = []
-bytes_after None (c ∷ rest) = if nat_lt c 128 then c ∷ bytes_after None rest else bytes_after (Some c) rest
-bytes_after (Some lead) (c ∷ rest) = ((lead - 194) * 64 + c) ∷ bytes_after None rest
-
-abbrev pub content_of : WordView → List ℕ
-content_of w = bytes_after None w.text
-
--- the place of the first byte of a word's content
-abbrev pub content_place : WordForm → Place → Place
-content_place forms.Bare p = p
-content_place forms.Braces p = past_byte p 123
-content_place forms.Quotes p = past_byte p 34
-
-abbrev pub inside_place : WordView → Place
-inside_place w = content_place w.form w.place
-
--- one past the content of a word
-abbrev pub content_end : WordView → Place
-content_end w = past (inside_place w) (content_of w)
-
--- the elements of a content as a list
-abbrev pub elements_at : Place → List ℕ → Outcome
-elements_at p content = read list_kind_of (start_at false p) content
-
-abbrev pub elements_of : WordView → Outcome
-elements_of w = elements_at (inside_place w) (content_of w)
-
-abbrev pub words_in : List (List WordView) → List WordView → List WordView
-words_in [] open_ones = open_ones
-words_in (line ∷ lines) open_ones = line
-
--- the words of a content as a list; its end ends the one command that they are
-abbrev pub words_of : Outcome → List WordView
-words_of outcome = words_in outcome.gathered.commands outcome.gathered.words
 
 abbrev pub stop_place : Stop → Place
 stop_place (stops.Syntax p) = p

@@ -3,7 +3,8 @@ use Rattle.std.specs.Prelude.{◌≡◌, ℕ, List, Result}
 use Rattle.lp_text.specs.declared.place.Place.{Place}
 use Rattle.lp_model.specs.CommandsView.{CommandView}
 use Rattle.lp_upf_words.specs.Words.{DenotesList}
-use Rattle.lp_spec_upf.specs.Commands.{Fault, elements_at}
+use Rattle.lp_upf_words.specs.Elements.{elements_at}
+use Rattle.lp_spec_upf.specs.Commands.{Fault}
 use Rattle.lp_spec_upf.specs.Intent.{Denotes}
 
 -- a text says its commands, or has its one fault, in one way

@@ -101,7 +101,7 @@ crossing rules = strategy (
     free options.Source Name
     ∷ free options.Sink Name
     ∷ free options.AppliesTo (OneOf (codes "inputs" ∷ codes "outputs" ∷ codes "both" ∷ []))
-    ∷ free options.Location (OneOf (codes "self" ∷ codes "parent" ∷ []))
+    ∷ free options.Location (OneOf (codes "self" ∷ codes "parent" ∷ codes "automatic" ∷ []))
     ∷ rules)
 
 abbrev pub named : List OptionRule → Shape

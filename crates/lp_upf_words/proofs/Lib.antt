@@ -1,6 +1,8 @@
 mod Again
 mod Answered
+mod Content
 mod Found
 mod Leaving
 pub mod Once
 mod Shown
+pub mod Sizes

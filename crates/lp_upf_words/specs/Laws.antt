@@ -1,7 +1,10 @@
 -- The statements of the laws of this crate (own rule).
-use Rattle.std.specs.Prelude.{◌≡◌, ℕ, List, Some}
+use Rattle.std.specs.Prelude.{◌≡◌, ℕ, true, nat_lt, List, None, Some}
+use Rattle.std.specs.List.{list_all}
 use Rattle.lp_text.specs.declared.place.Place.{Place}
 use Rattle.lp_upf_words.specs.declared.mode.Stop.{Stop}
+use Rattle.lp_upf_words.specs.Bytes.{characters}
+use Rattle.lp_upf_words.specs.Elements.{bytes_after}
 use Rattle.lp_upf_words.specs.Words.{Outcome, Denotes, DenotesList}
 use Rattle.lp_upf_words.specs.Leaving.{LeavesAt}
 
@@ -23,3 +26,7 @@ EachHasElements = (p : Place) (content : List ℕ) → (outcome : Outcome) × De
 
 abbrev pub OneElements : Type 0
 OneElements = (p : Place) (content : List ℕ) (a b : Outcome) → DenotesList p content a → DenotesList p content b → a ≡ b
+
+-- bytes that were taken as characters come back
+abbrev pub BytesComeBack : Type 0
+BytesComeBack = (bytes : List ℕ) → list_all (λ b. nat_lt b 256) bytes ≡ true → bytes_after None (characters bytes) ≡ bytes

@@ -1,7 +1,9 @@
 pub mod Answer
 pub mod Bytes
+pub mod Elements
 pub mod Laws
 pub mod Leaving
 pub mod Reading
+pub mod Sizes
 pub mod Views
 pub mod Words

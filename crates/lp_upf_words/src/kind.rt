@@ -1,5 +1,6 @@
 ghost use Rattle.std.specs.Prelude.{◌≡◌};
-ghost use Rattle.lp_upf_words.specs.Bytes.{is_blank, kind_of};
+ghost use Rattle.lp_upf_words.specs.Bytes.{in_list, is_blank, kind_of};
+ghost use Rattle.lp_upf_words.specs.Elements.{kind_in};
 
 /// What a byte is, as far as words go by it (IEEE 1801-2015, Tcl syntax).
 #[derive(Clone, Copy)]
@@ -41,7 +42,7 @@ fn is_blank(byte: u8) -> bool
 }
 
 /// The kind of a byte of a text.
-pub(crate) fn kind_of(byte: u8) -> Kind
+fn kind_of(byte: u8) -> Kind
     ensures { result ≡ kind_of byte }
 {
     if is_blank(byte) {
@@ -70,5 +71,28 @@ pub(crate) fn kind_of(byte: u8) -> Kind
         Kind::Digit
     } else {
         Kind::Other
+    }
+}
+
+/// What a byte of this kind is in a list.
+fn in_list(kind: Kind) -> Kind
+    ensures { result ≡ in_list kind }
+{
+    match kind {
+        Kind::LineEnd => Kind::Feed,
+        Kind::Semicolon | Kind::Hash | Kind::Dollar | Kind::OpenBracket | Kind::CloseBracket =>
+            Kind::Other,
+        _ => kind,
+    }
+}
+
+/// The kind of a byte of a text, or else of the content of a list.
+pub(crate) fn kind_in(list: bool, byte: u8) -> Kind
+    ensures { result ≡ kind_in list byte }
+{
+    if list {
+        in_list(kind_of(byte))
+    } else {
+        kind_of(byte)
     }
 }

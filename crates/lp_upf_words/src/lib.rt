@@ -3,6 +3,7 @@
 
 mod answer;
 mod decide;
+mod elements;
 mod kind;
 mod laws;
 mod mode;
@@ -10,6 +11,7 @@ mod read;
 mod reader;
 
 pub use answer::WordsRead;
+pub use elements::{Elements, read_elements};
 pub use laws::{
     one_list_of_elements, one_list_of_words, words_are_found, words_leave_at_their_place,
 };

@@ -3,7 +3,8 @@ ghost use Rattle.lp_text.specs.declared.shelf.TheConstants.{LIMIT};
 ghost use Rattle.lp_text.specs.Limits.{most_names, most_names_before};
 ghost use Rattle.lp_text.specs.Texts.{Grown};
 ghost use Rattle.lp_model.specs.Agreement.{numbers_below};
-ghost use Rattle.lp_upf_words.specs.Bytes.{kind_of};
+ghost use Rattle.lp_text.specs.Places.{past, past_byte};
+ghost use Rattle.lp_upf_words.specs.Elements.{kind_in};
 ghost use Rattle.lp_upf_words.specs.Words.{outcome_of};
 ghost use Rattle.lp_upf_words.specs.Reading.{cost_if, finished, left, read, size_of, start, step_by};
 ghost use Rattle.lp_upf_words.specs.Views.{gathered_of, numbers_of, state_of};
@@ -11,7 +12,7 @@ ghost use Rattle.lp_upf_words.specs.Answer.{fault_numbers, gathered_in, read_num
 
 use crate::answer::WordsRead;
 use crate::decide::{decide, last};
-use crate::kind::{Kind, kind_of};
+use crate::kind::{Kind, kind_in};
 use crate::mode::Stop;
 use crate::reader::{Reader, intern};
 use lp_model::IntentFault;
@@ -35,6 +36,7 @@ fn step(
     ensures grown { Grown names.old names.new }
     ensures few { length names.new ≤ length names.old + size_of reader.old.mode + 1 }
     ensures size { IfOk result (λ stop. length names.new + left reader.new.mode stop ≤ length names.old + size_of reader.old.mode + 1) }
+    ensures here { OnOk result (reader.new.here ≡ past_byte reader.old.here byte) }
     ensures line { OnOk result (reader.new.here.line ≤ reader.old.here.line + 1) }
     ensures column { OnOk result (reader.new.here.column ≤ reader.old.here.column + 1) }
 {
@@ -53,25 +55,33 @@ fn finish(reader: &mut Reader, names: &mut Names) -> Result<Option<Stop>, NoMemo
     ensures grown { Grown names.old names.new }
     ensures few { length names.new ≤ length names.old + size_of reader.old.mode }
     ensures size { IfOk result (λ stop. length names.new + left reader.new.mode stop ≤ length names.old + size_of reader.old.mode) }
+    ensures here { reader.new.here ≡ reader.old.here }
 {
     let action = last(reader.mode, reader.here);
     reader.apply(names, action, 0)
 }
 
-/// Reads a text, up to where it leaves the form.
-fn run(reader: &mut Reader, names: &mut Names, text: &[u8]) -> Result<Option<Stop>, NoMemory>
-    requires small { length text.now ≤ LIMIT }
-    requires room { length names.old ≤ most_names_before }
-    requires fresh { (names : List (List ℕ)) → state_of names reader.old ≡ start }
-    requires numbers { numbers_of reader.old ≡ [] }
-    ensures ok { IfOk result (λ stop. read kind_of start text.now ≡ outcome_of (gathered_of names.new reader.new) stop) }
+/// Reads a text or the content of a list, up to where it leaves the form.
+pub(crate) fn run(
+    reader: &mut Reader,
+    names: &mut Names,
+    text: &[u8],
+    list: bool,
+) -> Result<Option<Stop>, NoMemory>
+    requires room { length names.old + length text.now < most_names }
+    requires below { numbers_below (length names.old) (numbers_of reader.old) ≡ true }
+    requires size { size_of reader.old.mode ≡ 0 }
+    requires line { reader.old.here.line + length text.now < 2 ^ 32 - 1 }
+    requires column { reader.old.here.column + length text.now < 2 ^ 32 - 1 }
+    ensures ok { IfOk result (λ stop. read (kind_in list) (state_of names.old reader.old) text.now ≡ outcome_of (gathered_of names.new reader.new) stop) }
+    ensures here { IfOk result (λ stop. stop ≡ None → reader.new.here ≡ past reader.old.here text.now) }
     ensures below { OnOk result (numbers_below (length names.new) (numbers_of reader.new) ≡ true) }
     ensures grown { Grown names.old names.new }
     ensures few { length names.new ≤ length names.old + length text.now }
     ensures cost { IfOk result (λ stop. length names.new + cost_if stop ≤ length names.old + length text.now) }
 {
     for byte in text {
-        let stop = step(reader, names, kind_of(*byte), *byte)?;
+        let stop = step(reader, names, kind_in(list, *byte), *byte)?;
         if stop.is_some() {
             return Ok(stop);
         }
@@ -134,8 +144,8 @@ pub fn read_words(alloc: Global, names: &mut Names, text: &[u8]) -> Result<Words
     ensures grown { Grown names.old names.new }
     ensures few { length names.new ≤ length names.old + length text.now }
 {
-    let mut reader = Reader::new(alloc);
-    match run(&mut reader, names, text) {
+    let mut reader = Reader::new(alloc, true, Place { line: 1, column: 1 });
+    match run(&mut reader, names, text, false) {
         Ok(stop) => words_read(reader, names, stop),
         Err(NoMemory) => Err(NoMemory),
     }

@@ -4,7 +4,7 @@ ghost use Rattle.lp_text.specs.Limits.{most_names};
 ghost use Rattle.lp_text.specs.Places.{past_byte};
 ghost use Rattle.lp_text.specs.Texts.{Grown, with_text, text_at};
 ghost use Rattle.lp_model.specs.Agreement.{numbers_below};
-ghost use Rattle.lp_upf_words.specs.Reading.{applied, closed, ended, left, moved, start, weight};
+ghost use Rattle.lp_upf_words.specs.Reading.{applied, closed, ended, left, moved, start_at, weight};
 ghost use Rattle.lp_upf_words.specs.Views.{numbers_of, state_of};
 
 use crate::answer::WordsRead;
@@ -51,7 +51,7 @@ pub(crate) fn intern(names: &mut Names, name: &str) -> Result<NameId, NoMemory>
 }
 
 /// The place behind a byte.
-fn past_byte(place: Place, byte: u8) -> Place
+pub(crate) fn past_byte(place: Place, byte: u8) -> Place
     requires line { place.line < 2 ^ 32 - 1 }
     requires column { place.column < 2 ^ 32 - 1 }
     ensures value { result ≡ past_byte place byte }
@@ -72,19 +72,21 @@ fn past_byte(place: Place, byte: u8) -> Place
 }
 
 impl Reader {
-    pub(crate) fn new(alloc: Global) -> Reader
-        ensures state { (names : List (List ℕ)) → state_of names result ≡ start }
+    /// Where a command may begin, or else a further word, at a place.
+    pub(crate) fn new(alloc: Global, fresh: bool, place: Place) -> Reader
+        ensures state { (names : List (List ℕ)) → state_of names result ≡ start_at fresh place }
+        ensures mode { result.mode ≡ Mode.Gap fresh }
+        ensures here { result.here ≡ place }
         ensures numbers { numbers_of result ≡ [] }
     {
-        let start = Place { line: 1, column: 1 };
         Reader {
             commands: Items::new(alloc),
             ends: Items::new(alloc),
             words: Items::new(alloc),
             said: String::new(alloc),
-            begun: start,
-            here: start,
-            mode: Mode::Gap(true),
+            begun: place,
+            here: place,
+            mode: Mode::Gap(fresh),
             alloc,
         }
     }
@@ -190,6 +192,7 @@ impl Reader {
         ensures state { (names : List (List ℕ)) → state_of names self.new ≡ moved byte (state_of names self.old) }
         ensures numbers { numbers_of self.new ≡ numbers_of self.old }
         ensures mode { self.new.mode ≡ self.old.mode }
+        ensures here { self.new.here ≡ past_byte self.old.here byte }
         ensures line { self.new.here.line ≤ self.old.here.line + 1 }
         ensures column { self.new.here.column ≤ self.old.here.column + 1 }
     {

@@ -1,3 +1,4 @@
+use Rattle.lp_upf_words.proofs.Content.{come_back}
 use Rattle.lp_upf_words.proofs.Once.{each_list, once_list}
 use Rattle.lp_upf_words.proofs.laws.one_list_of_elements.Goals as goal
 
@@ -6,3 +7,6 @@ returns-clause-found c = each_list
 
 pub returns-clause-once : goal.returns-clause-once
 returns-clause-once c = once_list
+
+pub returns-clause-bytes : goal.returns-clause-bytes
+returns-clause-bytes c = come_back
