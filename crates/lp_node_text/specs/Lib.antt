@@ -1,0 +1,4 @@
+pub mod Paths
+pub mod Numbered
+pub mod Ready
+pub mod Reports
