@@ -1,0 +1,9 @@
+pub mod Places
+pub mod Joined
+pub mod Faults
+pub mod Connected
+pub mod Values
+pub mod Ports
+pub mod Rows
+pub mod Bound
+pub mod Statements

@@ -1,0 +1,6 @@
+//! The templates of modules by the numbers of names are those of the layout: laws alone.
+#![tactic(auto)]
+
+mod laws;
+
+pub use laws::templates_are_those;
