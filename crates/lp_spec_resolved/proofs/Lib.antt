@@ -1,0 +1,2 @@
+mod ComputedSupplies
+pub mod Numbers
