@@ -45,9 +45,10 @@ pub record IsBound (s : Structure) (y : InstanceView) (t : Target) : Type 0 wher
   pub modules : (k : ℕ) → t ≡ OfModule k → k < length s.modules
   pub cells : (k : ℕ) → t ≡ OfCell k → k < length s.cells
 
--- and each of a module's instances has its target
+-- and each of a module's instances has its target, and each target its instance
 pub record IsRow (s : Structure) (m : ModuleView) (row : List Target) : Type 0 where
   pub each : (i : ℕ) (y : InstanceView) → slice_get m.instances i ≡ Some y → (t : Target) × (slice_get row i ≡ Some t) × IsBound s y t
+  pub held : (i : ℕ) (t : Target) → slice_get row i ≡ Some t → (y : InstanceView) × (slice_get m.instances i ≡ Some y) × IsBound s y t
 
 module _ (s : Structure) (rows : List (List Target)) (known : AreRows s rows) where
   pub bound-row : (a : ℕ) (m : ModuleView) → slice_get s.modules a ≡ Some m → (row : List Target) × (slice_get rows a ≡ Some row) × IsRow s m row
@@ -63,23 +64,30 @@ module _ (s : Structure) (rows : List (List Target)) (known : AreRows s rows) wh
       let cell-places : length (cell_rows rows) ≡ length rows = length-map cells_of rows in
       let inner : All (λ b. b < length rows) (children_of row) = subst (All (λ b. b < length rows)) (row_at rows a row there.1) (known.closed a [] (omega (arith, place, places))) in
       let leaves : All (λ b. b < length s.cells) (cells_of row) = subst (All (λ b. b < length s.cells)) (cell-row-at rows a row there.1) (known.cells a [] (omega (arith, place, cell-places))) in
-      let many : length rows ≡ length s.modules = sym places ∙ count s rows known.targets in (
+      let many : length rows ≡ length s.modules = sym places ∙ count s rows known.targets in
+      let bind : (i : ℕ) (y : InstanceView) → slice_get m.instances i ≡ Some y → (t : Target) × (slice_get row i ≡ Some t) × IsBound s y t =
+      λ i y e.
+      let t = at_place (module_of s) (λ (x : InstanceView). module_named s x.target) row m.instances there.2 i y e in
+      let u = at_place (cell_of s) (λ (x : InstanceView). cell_named s x.target) row m.instances cells i y e in
+      let equal : Some u.0 ≡ Some t.0 = sym u.1 ∙ t.1 in
+      let is : u.0 ≡ t.0 = cc in (
+        t.0,
+        t.1,
+        record {
+          of_module = t.2;
+          of_cell = ap (cell_of s) (sym is) ∙ u.2;
+          modules = λ k f. subst (λ z. k < z) many (module-below (length rows) row i k inner (t.1 ∙ ap (λ (z : Target). Some z) f));
+          cells = λ k f. cell-below (length s.cells) row i k leaves (t.1 ∙ ap (λ (z : Target). Some z) f);
+        },
+      ) in (
         row,
         there.1,
         record {
-          each = λ i y e.
-              let t = at_place (module_of s) (λ (x : InstanceView). module_named s x.target) row m.instances there.2 i y e in
-              let u = at_place (cell_of s) (λ (x : InstanceView). cell_named s x.target) row m.instances cells i y e in
-              let equal : Some u.0 ≡ Some t.0 = sym u.1 ∙ t.1 in
-              let is : u.0 ≡ t.0 = cc in (
-                t.0,
-                t.1,
-                record {
-                  of_module = t.2;
-                  of_cell = ap (cell_of s) (sym is) ∙ u.2;
-                  modules = λ k f. subst (λ z. k < z) many (module-below (length rows) row i k inner (t.1 ∙ ap (λ (z : Target). Some z) f));
-                  cells = λ k f. cell-below (length s.cells) row i k leaves (t.1 ∙ ap (λ (z : Target). Some z) f);
-                },
-              );
+          each = bind;
+          held = λ i t e.
+              let y = at_place (λ (x : InstanceView). module_named s x.target) (module_of s) m.instances row (sym there.2) i t e in
+              let found = bind i y.0 y.1 in
+              let equal : Some found.0 ≡ Some t = sym found.1 ∙ e in
+              let is : found.0 ≡ t = cc in (y.0, y.1, subst (IsBound s y.0) is found.2);
         },
       )

@@ -26,7 +26,7 @@ first-none p (y ∷ xs) x e h = by (p y) refl e h (first-none p xs x)
     by false t f (inl is) more = ap p is ∙ t
     by false t f (inr g) more = more f g
 
-or-false : (a b : Bool) → (a || b) ≡ false → (a ≡ false) × (b ≡ false)
+pub or-false : (a b : Bool) → (a || b) ≡ false → (a ≡ false) × (b ≡ false)
 or-false true b e = absurd (true≢false e)
 or-false false b e = (refl, e)
 

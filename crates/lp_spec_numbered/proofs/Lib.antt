@@ -7,3 +7,5 @@ pub mod Ports
 pub mod Rows
 pub mod Bound
 pub mod Statements
+pub mod Heights
+pub mod Sized

@@ -3,4 +3,4 @@
 
 mod laws;
 
-pub use laws::templates_are_those;
+pub use laws::{templates_are_sized, templates_are_those};
