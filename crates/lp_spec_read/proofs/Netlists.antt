@@ -110,7 +110,7 @@ module _ (q : Path) (m : ModuleView) where
   as_bit n i (Some None) e h = absurd (false≢true h)
   as_bit n i (Some (Some r)) e h = node_there n (Some r) (Some i) (entry n (declared m) (Some r) e) (index_in r i h)
 
-  bit_declared : (b : BitView) → is_bit (declared m) b ≡ true → IsDeclared q m b
+  pub bit_declared : (b : BitView) → is_bit (declared m) b ≡ true → IsDeclared q m b
   bit_declared (ConstBit b) h = tt
   bit_declared (NetBit n) h = as_scalar n (declaration (declared m) n) refl h
   bit_declared (SelectBit n i) h = as_bit n i (declaration (declared m) n) refl h
@@ -126,25 +126,25 @@ connected_bit nets (ByPosition values) b e h =
     let bits = of-flat (λ (x : List BitView). x) b values h in
     all_in (is_bit nets) b bits.0 (all_in (list_all (is_bit nets)) bits.0 values e bits.1) bits.2
 
-instance_bit : (nets : List (Name × Option BitRange)) (x : InstanceView) (b : BitView) → is_read_instance nets x ≡ true → IsIn b (connected_bits x.connections) → is_bit nets b ≡ true
+pub instance_bit : (nets : List (Name × Option BitRange)) (x : InstanceView) (b : BitView) → is_read_instance nets x ≡ true → IsIn b (connected_bits x.connections) → is_bit nets b ≡ true
 instance_bit nets x b e h =
     let name = and_parts (is_name x.name) _ e in
     connected_bit nets x.connections b (and_parts (is_name x.target) (is_read_connections nets x.connections) name.1).1 h
 
-assigned_bit : (nets : List (Name × Option BitRange)) (a : AssignView) (b : BitView) → is_assign nets a ≡ true → IsIn b a.left → is_bit nets b ≡ true
+pub assigned_bit : (nets : List (Name × Option BitRange)) (a : AssignView) (b : BitView) → is_assign nets a ≡ true → IsIn b a.left → is_bit nets b ≡ true
 assigned_bit nets a b e h =
     let left = and_parts (is_filled a.left) _ e in
     let right = and_parts (is_filled a.right) _ left.1 in
     all_in (is_bit nets) b a.left (and_parts (list_all (is_bit nets) a.left) _ right.1).0 h
 
-taken_bit : (nets : List (Name × Option BitRange)) (a : AssignView) (b : BitView) → is_assign nets a ≡ true → IsIn b a.right → is_bit nets b ≡ true
+pub taken_bit : (nets : List (Name × Option BitRange)) (a : AssignView) (b : BitView) → is_assign nets a ≡ true → IsIn b a.right → is_bit nets b ≡ true
 taken_bit nets a b e h =
     let left = and_parts (is_filled a.left) _ e in
     let right = and_parts (is_filled a.right) _ left.1 in
     let bits = and_parts (list_all (is_bit nets) a.left) _ right.1 in
     all_in (is_bit nets) b a.right (and_parts (list_all (is_bit nets) a.right) _ bits.1).0 h
 
-its_assigns : (m : ModuleView) → is_read_module m ≡ true → list_all (is_assign (declared m)) m.assigns ≡ true
+pub its_assigns : (m : ModuleView) → is_read_module m ≡ true → list_all (is_assign (declared m)) m.assigns ≡ true
 its_assigns m e =
     let name = and_parts (is_name m.name) _ e in
     let nets = and_parts (list_all is_net (declared m)) _ name.1 in
@@ -176,7 +176,7 @@ names_by : (ports : List PortView) (nets : List NetView) (rest : List Name) → 
 names_by [] nets rest = nets_by nets rest
 names_by (q ∷ ports) nets rest = ap (λ z. q.name ∷ z) (names_by ports nets rest)
 
-module_apart : (m : ModuleView) → is_read_module m ≡ true → are_apart (names_in m) ≡ true
+pub module_apart : (m : ModuleView) → is_read_module m ≡ true → are_apart (names_in m) ≡ true
 module_apart m e =
     let name = and_parts (is_name m.name) _ e in
     let nets = and_parts (list_all is_net (declared m)) _ name.1 in
