@@ -1,6 +1,6 @@
--- Netlists without faults of names, targets, modules, connections and cells, and the stops at others.
+-- Netlists without faults of names, targets, modules, connections, cells and net bits, and the stops at others.
 use Rattle.std.proofs.Common.{◌≡◌, ℕ, ◌≤◌, Bool, true, false, not, List, [], ◌∷◌, ◌++◌, map, length, Option, Some, None, inl, inr, refl, sym, ap, ◌∙◌, subst, arith}
-use Rattle.std.specs.Prelude.{Result, Ok, Err, IfOk, IfErr, ◌&&◌, ltb, flat_map, bytes_eq, codes}
+use Rattle.std.specs.Prelude.{Err, ◌&&◌, ltb, flat_map, bytes_eq, codes}
 use Rattle.std.specs.Option.{option_map}
 use Rattle.std.specs.List.{list_all}
 use Rattle.std.proofs.lemmas.Bool.{and_parts, and_from, false≢true}
@@ -18,13 +18,15 @@ use Rattle.lp_model.specs.declared.library.Library.{Library}
 use Rattle.lp_model.specs.declared.netlist.Module.{Module}
 use Rattle.lp_model.specs.declared.netlist.Netlist.{Netlist}
 use Rattle.lp_model.specs.NetlistView.{ModuleView, module_view, module_numbers, netlist_view, netlist_numbers}
-use Rattle.lp_model.specs.LibraryView.{CellView}
+use Rattle.lp_model.specs.LibraryView.{CellView, library_view}
 use Rattle.lp_spec_design.specs.Keys.{Name}
 use Rattle.lp_spec_design.specs.Netlists.{Structure}
 use Rattle.lp_spec_faults.specs.Lines.{first_of}
 use Rattle.lp_spec_faults.specs.Modules.{reserved_name, unknown_module, recursive, top_count, netlist_limits, unfit_cell}
 use Rattle.lp_spec_faults.specs.Wires.{unknown_pin, already_powered, width}
-use Rattle.lp_targets.specs.Structures.{AreNamed}
+use Rattle.lp_targets.specs.declared.hierarchy.Hierarchy.{Hierarchy}
+use Rattle.lp_targets.specs.Sizes.{IsResolved, sizes_of}
+use Rattle.lp_targets.specs.Structures.{AreNamed, structure_of}
 use Rattle.lp_targets.specs.Targets.{AreTargets}
 use Rattle.lp_targets.specs.declared.target.Target.{Target}
 use Rattle.lp_targets.specs.Reports.{Report, report_of, or_else, hierarchy_report, IsStop}
@@ -34,8 +36,11 @@ use Rattle.lp_verilog.specs.Laws.{AreFew}
 use Rattle.lp_vwrite.specs.Sound.{is_read_module, is_read}
 use Rattle.lp_plain_index.proofs.Numbers.{below-left, below-right}
 use Rattle.lp_spec_plain_netlist.specs.Single.{is_single}
-use Rattle.lp_spec_insertion.specs.Inputs.{structure_in, netlist_report}
-use Rattle.lp_spec_insertion.specs.Faults.{not_yet, report_line}
+use Rattle.lp_spec_ready.proofs.Declared.{apart-when-read, declared-when-read}
+use Rattle.lp_node_text.specs.Reports.{report_line, source_report}
+use Rattle.lp_sources.specs.Judged.{IsJudged}
+use Rattle.lp_spec_insertion.specs.Inputs.{structure_in, parts_report, netlist_report}
+use Rattle.lp_spec_insertion.specs.Faults.{not_yet}
 use Rattle.lp_accept.specs.declared.stop.Stop.{Stop}
 use Rattle.lp_accept.specs.declared.stop.Stop.TheVariants as stops
 use Rattle.lp_accept.specs.Stages.{IsLine, OrStop, IsPlainRefusal, StopsAs}
@@ -73,7 +78,14 @@ pub are_modules : (names : List (List ℕ)) (text : List ℕ) (n : Netlist) → 
 are_modules names text n short room below read few =
     let apart = (and_parts (distinct (map (λ (m : ModuleView). m.name) (netlist_view names n))) (list_all is_read_module (netlist_view names n)) read).0 in
     let count = few_modules names n.modules apart below in
-    record { below = below; apart = apart; few = omega (arith, count, room); small = are_small (length text) n.modules short few }
+    record {
+      below = below;
+      apart = apart;
+      few = omega (arith, count, room);
+      small = are_small (length text) n.modules short few;
+      names_apart = λ cells. apart-when-read (structure_in cells (netlist_view names n)) read;
+      declared = declared-when-read (structure_in [] (netlist_view names n)) read;
+    }
 
 pub are_named : (names : List (List ℕ)) (n : Netlist) (l : Library) → AreCells names l → AreModules names n → AreNamed names n l
 are_named names n l cells modules = record { netlist = modules.below; library = cells.below; few_modules = modules.few; few_cells = cells.few }
@@ -86,33 +98,42 @@ stop_as texts a b (refusals.Fault (faults.Design (of_design.Netlist f))) same h 
 stop_as texts a b (refusals.Fault (faults.Design _)) same h = absurd h
 stop_as texts a b (refusals.Fault _) same h = absurd h
 
-pub stop_by_names : (texts : List (List ℕ)) (s : Structure) (r : Refusal) → IsStop texts (hierarchy_report s) r → IsStop texts (netlist_report s) r
-unfolding netlist_report
+pub stop_by_names : (texts : List (List ℕ)) (s : Structure) (r : Refusal) → IsStop texts (hierarchy_report s) r → IsStop texts (parts_report s) r
+unfolding parts_report
 stop_by_names texts s r h = stop_as texts (hierarchy_report s) (or_else (hierarchy_report s) (connections_report s)) r (λ x e. ap (λ o. or_else o (connections_report s)) e) h
 
-pub stop_by_connections : (texts : List (List ℕ)) (s : Structure) (r : Refusal) → hierarchy_report s ≡ None → IsStop texts (connections_report s) r → IsStop texts (netlist_report s) r
-unfolding netlist_report
+stop_by_connections : (texts : List (List ℕ)) (s : Structure) (r : Refusal) → hierarchy_report s ≡ None → IsStop texts (connections_report s) r → IsStop texts (parts_report s) r
+unfolding parts_report
 stop_by_connections texts s r none h = stop_as texts (connections_report s) (or_else (hierarchy_report s) (connections_report s)) r (λ x e. ap (λ o. or_else o (connections_report s)) none ∙ e) h
 
-pub none_reported : (s : Structure) → hierarchy_report s ≡ None → connections_report s ≡ None → netlist_report s ≡ None
-unfolding netlist_report
-none_reported s none e = ap (λ o. or_else o (connections_report s)) none ∙ e
+no_parts : (s : Structure) → hierarchy_report s ≡ None → connections_report s ≡ None → parts_report s ≡ None
+unfolding parts_report
+no_parts s none e = ap (λ o. or_else o (connections_report s)) none ∙ e
 
 -- what is said of connections, where no line holds about names, targets and modules
-module _ {T : Type 0} (texts : List (List ℕ)) (s : Structure) (rows now : List (List Target)) (same : now ≡ rows) (targets : AreTargets s rows) (none : hierarchy_report s ≡ None) where
-  ok_by : (r : Result T Refusal) → IfOk r (λ _. connections_report s ≡ None) → IfOk r (λ _. netlist_report s ≡ None)
-  ok_by (Ok x) h = none_reported s none h
-  ok_by (Err e) h = tt
+module _ (texts : List (List ℕ)) (n : Netlist) (l : Library) (h : Hierarchy) (now : List (List Target)) (same : now ≡ h.rows) (read : AreModules texts n) (named : AreNamed texts n l) (resolved : IsResolved (structure_of texts n l) h.rows h.order.items h.top) (sizes : h.sizes.items ≡ sizes_of (structure_of texts n l)) (none : hierarchy_report (structure_of texts n l) ≡ None) where
+  abbrev judged-netlist : Structure
+  judged-netlist = structure_of texts n l
 
-  err_by : (r : Result T Refusal) → IfErr r (IsStop texts (connections_report s)) → IfErr r (IsStop texts (netlist_report s))
-  err_by (Ok x) h = tt
-  err_by (Err e) h = stop_by_connections texts s e none h
+  targets : AreTargets judged-netlist now
+  targets = subst (AreTargets judged-netlist) (sym same) resolved.known.targets
 
-  pub answered_ok : (r : Result T Refusal) → (AreTargets s now → IfOk r (λ _. connections_report s ≡ None)) → IfOk r (λ _. netlist_report s ≡ None)
-  answered_ok r h = ok_by r (h (subst (AreTargets s) (sym same) targets))
+  pub judged : connections_report judged-netlist ≡ None → IsJudged texts n l h
+  judged e = record {
+    named = named;
+    names = read.names_apart (library_view texts l);
+    declared = read.declared;
+    resolved = resolved;
+    sizes = sizes;
+    modules = none;
+    connections = e;
+  }
 
-  pub answered_err : (r : Result T Refusal) → (AreTargets s now → IfErr r (IsStop texts (connections_report s))) → IfErr r (IsStop texts (netlist_report s))
-  answered_err r h = err_by r (h (subst (AreTargets s) (sym same) targets))
+  pub answered : (AreTargets judged-netlist now → connections_report judged-netlist ≡ None) → IsJudged texts n l h
+  answered told = judged (told targets)
+
+  pub refused : (r : Refusal) → (AreTargets judged-netlist now → IsStop texts (connections_report judged-netlist) r) → IsStop texts (parts_report judged-netlist) r
+  refused r told = stop_by_connections texts judged-netlist r none (told targets)
 
 -- ---- names and places alone give the lines
 
@@ -132,8 +153,8 @@ other_map : {A : Type 0} (f : A → Report) (o : Option A) → ((x : A) → is_o
 other_map f None h = tt
 other_map f (Some x) h = h x
 
-others : (s : Structure) → IsOther (netlist_report s)
-unfolding netlist_report
+others : (s : Structure) → IsOther (parts_report s)
+unfolding parts_report
 others s =
     other_or (hierarchy_report s) (connections_report s)
     (other_or _ _
@@ -147,19 +168,55 @@ plain_fault texts o (of_netlist.TwoDrivers node) h e = absurd (false≢true (sub
 plain_fault texts o (of_netlist.WireLoop node) h e = absurd (false≢true (subst IsOther e h))
 plain_fault texts o _ h e = refl
 
-pub plain_stop : (texts : List (List ℕ)) (s : Structure) (r : Refusal) → IsStop texts (netlist_report s) r → IsPlainRefusal r
+pub plain_stop : (texts : List (List ℕ)) (s : Structure) (r : Refusal) → IsStop texts (parts_report s) r → IsPlainRefusal r
 plain_stop texts s refusals.NoMemory h = tt
-plain_stop texts s (refusals.Fault (faults.Design (of_design.Netlist f))) h = plain_fault texts (netlist_report s) f (others s) h
+plain_stop texts s (refusals.Fault (faults.Design (of_design.Netlist f))) h = plain_fault texts (parts_report s) f (others s) h
 plain_stop texts s (refusals.Fault (faults.Design _)) h = absurd h
 plain_stop texts s (refusals.Fault _) h = absurd h
 
+-- ---- the first line that holds
+
+first_part : (s : Structure) (r : Report) → parts_report s ≡ Some r → netlist_report s ≡ Some r
+unfolding netlist_report
+first_part s r e = ap (λ o. or_else o (source_report s)) e
+
+then_source : (s : Structure) → parts_report s ≡ None → netlist_report s ≡ source_report s
+unfolding netlist_report
+then_source s e = ap (λ o. or_else o (source_report s)) e
+
 -- the stop at a line that holds
-pub stops-faulty : {T : Type 0} (P : T → Type 0) (texts : List (List ℕ)) (cells : List CellView) (modules : List ModuleView) (r : Refusal) (s : Stop) → IsStop texts (netlist_report (structure_in cells modules)) r → StopsAs texts r s → OrStop P (IsFaulty cells modules) (Err s)
+pub stops-faulty : {T : Type 0} (P : T → Type 0) (texts : List (List ℕ)) (cells : List CellView) (modules : List ModuleView) (r : Refusal) (s : Stop) → IsStop texts (parts_report (structure_in cells modules)) r → StopsAs texts r s → OrStop P (IsFaulty cells modules) (Err s)
 stops-faulty P texts cells modules refusals.NoMemory s h k = subst (λ x. OrStop P (IsFaulty cells modules) (Err x)) (sym k) tt
 stops-faulty P texts cells modules (refusals.Fault (faults.Design (of_design.Netlist f))) s h k =
-    stops-line P (IsFaulty cells modules) (report_line (report_of texts f)) s k (record { report = report_of texts f; first = h; spelled = refl })
+    stops-line P (IsFaulty cells modules) (report_line (report_of texts f)) s k (record { report = report_of texts f; first = first_part (structure_in cells modules) (report_of texts f) h; spelled = refl })
 stops-faulty P texts cells modules (refusals.Fault (faults.Design _)) s h k = absurd h
 stops-faulty P texts cells modules (refusals.Fault _) s h k = absurd h
+
+-- ---- net bits
+
+module _ (texts : List (List ℕ)) (n : Netlist) (l : Library) (h : Hierarchy) (is : IsJudged texts n l h) where
+  abbrev here : Structure
+  here = structure_of texts n l
+
+  by_source : netlist_report here ≡ source_report here
+  by_source = then_source here (no_parts here is.modules is.connections)
+
+  pub no-source : None ≡ option_map report_line (source_report here) → IsFaultless (library_view texts l) (netlist_view texts n)
+  no-source e = by_source ∙ none-mapped (source_report here) e
+    where
+      none-mapped : (o : Option Report) → None ≡ option_map report_line o → o ≡ None
+      none-mapped None k = refl
+      none-mapped (Some r) k = cc
+
+  pub some-source : (line : List ℕ) → Some line ≡ option_map report_line (source_report here) → IsFaulty (library_view texts l) (netlist_view texts n) line
+  some-source line e = by (source_report here) refl e
+    where
+      by : (o : Option Report) → source_report here ≡ o → Some line ≡ option_map report_line o → IsFaulty (library_view texts l) (netlist_view texts n) line
+      by None is k = cc
+      by (Some r) is k = record { report = r; first = by_source ∙ is; spelled = same k }
+        where
+          same : Some line ≡ Some (report_line r) → line ≡ report_line r
+          same z = cc
 
 -- ---- one module
 

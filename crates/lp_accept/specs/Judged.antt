@@ -16,7 +16,8 @@ use Rattle.lp_spec_plain_netlist.specs.Fits.{is_fit, are_plain, are_read}
 use Rattle.lp_spec_plain_netlist.specs.Flats.{flat_of, HasLoop, IsOrdered}
 use Rattle.lp_targets.specs.Reports.{Report}
 use Rattle.lp_spec_insertion.specs.Inputs.{Inputs, structure_in, netlist_report, Accepts}
-use Rattle.lp_spec_insertion.specs.Faults.{not_yet, report_line}
+use Rattle.lp_node_text.specs.Reports.{report_line}
+use Rattle.lp_spec_insertion.specs.Faults.{not_yet}
 use Rattle.lp_model.specs.declared.netlist.Module.{Module}
 use Rattle.lp_accept.specs.declared.accepted.Accepted.{Accepted}
 use Rattle.lp_accept.specs.declared.stop.Stop.{Stop}
@@ -26,7 +27,7 @@ use Rattle.lp_accept.specs.Stages.{OrStop}
 abbrev pub losing : List (List ℕ) → List Cell → List Bool
 losing texts cells = map (λ c. loses_with_supply (cell_view texts c)) cells
 
--- a netlist of which no line holds about names, targets, modules, connections and cells
+-- a netlist of which no line holds about names, targets, modules, connections, cells and net bits
 abbrev pub IsFaultless : List CellView → List ModuleView → Type 0
 IsFaultless cells modules = netlist_report (structure_in cells modules) ≡ None
 

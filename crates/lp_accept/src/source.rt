@@ -1,9 +1,10 @@
-ghost use Rattle.std.specs.Prelude.{◌≡◌, [], ◌∷◌, None, length, IfOk, IfErr};
+ghost use Rattle.std.specs.Prelude.{◌≡◌, [], ◌∷◌, length, IfOk, IfErr};
 ghost use Rattle.lp_model.specs.LibraryView.{library_view};
 ghost use Rattle.lp_model.specs.NetlistView.{netlist_view};
 ghost use Rattle.lp_targets.specs.Reports.{IsStop};
 ghost use Rattle.lp_targets.specs.Structures.{structure_of};
-ghost use Rattle.lp_spec_insertion.specs.Inputs.{netlist_report};
+ghost use Rattle.lp_sources.specs.Judged.{IsJudged};
+ghost use Rattle.lp_spec_insertion.specs.Inputs.{parts_report};
 ghost use Rattle.lp_accept.specs.Stages.{IsPlainRefusal, StopsAs};
 ghost use Rattle.lp_accept.specs.Read.{AreModules, AreCells};
 ghost use Rattle.lp_accept.specs.Judged.{FaultlessOrStop, TakenOrStop, SourceOrStop};
@@ -12,25 +13,31 @@ use crate::stop::{Stop, not_yet, stop_at};
 use lp_connections::check_connections;
 use lp_model::{Library, Module, Netlist, Refusal};
 use lp_plain_fits::is_single;
-use lp_targets::hierarchy_of;
-use lp_text::Names;
+use lp_sources::source_line;
+use lp_targets::{Hierarchy, hierarchy_of};
+use lp_text::{Names, NoMemory};
 use std::alloc::Global;
 
-/// Asks whether a netlist has no fault of names, targets and modules, and none of connections, assigns and cells.
-fn check_modules(
+/// What the instances of a netlist are of, where it has no fault of names, targets and modules, and none of connections,
+/// assigns and cells.
+fn check_parts(
     alloc: Global,
     names: &Names,
     library: &Library,
     netlist: &Netlist,
-) -> Result<(), Refusal>
+) -> Result<Hierarchy, Refusal>
     requires cells { AreCells names.now library.now }
     requires modules { AreModules names.now netlist.now }
-    ensures ok { IfOk result (λ _. netlist_report (structure_of names.now netlist.now library.now) ≡ None) }
-    ensures err { IfErr result (IsStop names.now (netlist_report (structure_of names.now netlist.now library.now))) }
+    ensures ok { IfOk result (IsJudged names.now netlist.now library.now) }
+    ensures err { IfErr result (IsStop names.now (parts_report (structure_of names.now netlist.now library.now))) }
 {
     match hierarchy_of(alloc, names, netlist, library) {
         Ok(hierarchy) => {
-            check_connections(alloc, names, netlist, library, hierarchy.rows.as_slice())
+            let rows = hierarchy.rows.as_slice();
+            match check_connections(alloc, names, netlist, library, rows) {
+                Ok(()) => Ok(hierarchy),
+                Err(refusal) => Err(refusal),
+            }
         }
         Err(refusal) => Err(refusal),
     }
@@ -47,6 +54,24 @@ fn stop_of(alloc: Global, names: &Names, refusal: Refusal) -> Stop
     }
 }
 
+/// Asks whether no net bit of a netlist that has no other fault has two drivers.
+fn check_sources(
+    alloc: Global,
+    names: &Names,
+    library: &Library,
+    netlist: &Netlist,
+    hierarchy: &Hierarchy,
+) -> Result<(), Stop>
+    requires judged { IsJudged names.now netlist.now library.now hierarchy.now }
+    ensures { FaultlessOrStop (library_view names.now library.now) (netlist_view names.now netlist.now) result }
+{
+    match source_line(alloc, names, netlist, library, hierarchy) {
+        Ok(None) => Ok(()),
+        Ok(Some(line)) => Err(Stop::Fault(line)),
+        Err(NoMemory) => Err(Stop::NoMemory),
+    }
+}
+
 /// Asks whether a netlist is faultless.
 fn check_netlist(
     alloc: Global,
@@ -58,8 +83,8 @@ fn check_netlist(
     requires modules { AreModules names.now netlist.now }
     ensures { FaultlessOrStop (library_view names.now library.now) (netlist_view names.now netlist.now) result }
 {
-    match check_modules(alloc, names, library, netlist) {
-        Ok(()) => Ok(()),
+    match check_parts(alloc, names, library, netlist) {
+        Ok(hierarchy) => check_sources(alloc, names, library, netlist, &hierarchy),
         Err(refusal) => Err(stop_of(alloc, names, refusal)),
     }
 }

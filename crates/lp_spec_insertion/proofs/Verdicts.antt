@@ -20,8 +20,9 @@ use Rattle.lp_plain_upf.specs.Upf.{IsIntent}
 use Rattle.lp_spec_plain_netlist.specs.Single.{is_single, is_single_module}
 use Rattle.lp_spec_plain_netlist.specs.Fits.{is_fit, are_plain}
 use Rattle.lp_spec_plain_netlist.specs.Flats.{flat_of, HasLoop}
+use Rattle.lp_node_text.specs.Reports.{report_line}
 use Rattle.lp_spec_insertion.specs.Inputs.{Inputs, HaveGroups, HasCells, HasModules, structure_in, netlist_report, ReadsBoth, FitsCells, ReadsAll, Accepts}
-use Rattle.lp_spec_insertion.specs.Faults.{IsOff, FirstOff, HasTwice, IsRefused, FirstFault, library_off, cell_twice, netlist_off, netlist_faulty, not_single, no_fit, no_intent, not_plain, loop, not_yet, report_line, duplicate_cell}
+use Rattle.lp_spec_insertion.specs.Faults.{IsOff, FirstOff, HasTwice, IsRefused, FirstFault, library_off, cell_twice, netlist_off, netlist_faulty, not_single, no_fit, no_intent, not_plain, loop, not_yet, duplicate_cell}
 
 abbrev Line : Type 0
 Line = Option (List ℕ)

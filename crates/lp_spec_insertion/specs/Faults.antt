@@ -1,7 +1,7 @@
 -- What is refused, in which order: the first line that holds is the fault (own rule).
 use Rattle.std.specs.Prelude.{◌≡◌, ℕ, suc, ◌≤◌, ◌⊎◌, true, false, List, [], ◌∷◌, ◌++◌, length, codes, Some, None}
 use Rattle.lp_text.specs.Texts.{distinct}
-use Rattle.lp_model.specs.FaultLines.{fault_line, line_text}
+use Rattle.lp_model.specs.FaultLines.{fault_line}
 use Rattle.lp_model.specs.declared.fault.refusal.Fault.{Fault}
 use Rattle.lp_model.specs.declared.fault.refusal.Fault.TheVariants as faults
 use Rattle.lp_model.specs.declared.fault.refusal.Refusal.TheVariants as refusals
@@ -9,6 +9,7 @@ use Rattle.lp_model.specs.GroupsView.{GroupView}
 use Rattle.lp_model.specs.NetlistView.{ModuleView}
 use Rattle.lp_model.specs.LibraryView.{CellView}
 use Rattle.lp_targets.specs.Reports.{Report}
+use Rattle.lp_node_text.specs.Reports.{report_line}
 use Rattle.lp_liberty.specs.Denotes.{Denotes, RefusedAs}
 use Rattle.lp_cells.specs.Cells.{cells_of, cell_names}
 use Rattle.lp_cells.specs.Reasons.{repeated}
@@ -25,10 +26,6 @@ use Rattle.lp_spec_insertion.specs.Inputs.{Inputs, HaveGroups, HasCells, HasModu
 -- a form that is not built yet, by the number of the work that lifts it
 abbrev pub not_yet : ℕ → List ℕ
 not_yet k = fault_line [] (faults.NotYet k)
-
--- a word and its fields
-abbrev pub report_line : Report → List ℕ
-report_line r = line_text r.0 r.1
 
 abbrev pub duplicate_cell : List ℕ → List ℕ
 duplicate_cell cell = codes "lpinsert: F03 DuplicateCell " ++ cell
@@ -72,7 +69,7 @@ pub data FirstFault (inputs : Inputs) (line : List ℕ) : Type 0 where
   cell_twice : HasTwice inputs.libraries line → FirstFault inputs line
   -- the netlist text is off the form, or above the limit
   netlist_off : (cells : List CellView) → HasCells inputs.libraries cells → IsRefused inputs.netlist line → FirstFault inputs line
-  -- a line of the table holds of names, targets, modules, connections, assigns or cells, and this is the first
+  -- a line of the table holds of names, targets, modules, connections, assigns, cells or net bits, and this is the first
   netlist_faulty : (cells : List CellView) (modules : List ModuleView) (r : Report) → HasCells inputs.libraries cells → HasModules inputs.netlist modules → netlist_report (structure_in cells modules) ≡ Some r → line ≡ report_line r → FirstFault inputs line
   -- the netlist is not one module of scalars that are connected by name
   not_single : (cells : List CellView) (modules : List ModuleView) → HasCells inputs.libraries cells → HasModules inputs.netlist modules → netlist_report (structure_in cells modules) ≡ None → is_single modules ≡ false → line ≡ not_yet 4 → FirstFault inputs line

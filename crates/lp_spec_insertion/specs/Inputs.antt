@@ -6,6 +6,7 @@ use Rattle.lp_model.specs.LibraryView.{CellView}
 use Rattle.lp_spec_design.specs.Netlists.{Structure}
 use Rattle.lp_targets.specs.Reports.{Report, or_else, hierarchy_report}
 use Rattle.lp_connections.specs.Reports.{connections_report}
+use Rattle.lp_node_text.specs.Reports.{source_report}
 use Rattle.lp_liberty.specs.Denotes.{Denotes}
 use Rattle.lp_cells.specs.Cells.{IsLibrary}
 use Rattle.lp_verilog.specs.Reads.{Reads}
@@ -46,8 +47,12 @@ abbrev pub structure_in : List CellView → List ModuleView → Structure
 structure_in cells modules = record { modules = modules; cells = cells }
 
 -- the first line that holds of names, targets and modules, then of connections, assigns and cells
+unfoldable pub parts_report : Structure → Option Report
+parts_report s = or_else (hierarchy_report s) (connections_report s)
+
+-- then of net bits
 unfoldable pub netlist_report : Structure → Option Report
-netlist_report s = or_else (hierarchy_report s) (connections_report s)
+netlist_report s = or_else (parts_report s) (source_report s)
 
 -- the cells, and a netlist without such a fault that is a module of the form that is taken
 pub record ReadsBoth (inputs : Inputs) (cells : List CellView) (m : ModuleView) : Type 0 where

@@ -126,8 +126,8 @@ const CASES: &[(Change, Change, Change, &str)] = &[
         "F11 Unsupported 4:14 1'bx",
     ),
     ((", .B(b)", ""), SAME, SAME, "F99 NotYet 4"),
-    ((GATE, TWO_GATES), SAME, SAME, "F99 NotYet 4"),
-    ((".Y(y)", ".Y(a)"), SAME, SAME, "F99 NotYet 4"),
+    ((GATE, TWO_GATES), SAME, SAME, "F16 TwoDrivers y"),
+    ((".Y(y)", ".Y(a)"), SAME, SAME, "F16 TwoDrivers a"),
     ((GATE, CHAIN), SAME, SAME, ""),
     ((GATE, RING), SAME, SAME, "F99 NotYet 7"),
     ((GATE, RING_OF_THREE), SAME, SAME, "F99 NotYet 7"),
@@ -223,6 +223,16 @@ const CONNECTIONS: &[(&str, &str, &str)] = &[
         "F15 Width t i p",
     ),
     ("  u i (.p(a), .q(y));\n", LOWER, "F15 Width t i p"),
+    (
+        "  wire [3:0] n;\n  assign n = {a, b, a, b};\n  u i (.p({a, b}), .q(n[1]));\n",
+        LOWER,
+        "F16 TwoDrivers n[1]",
+    ),
+    (
+        "  u i (.p({a, b}), .q(y));\n  u j (.p({b, a}), .q());\n",
+        "endmodule\nmodule u (p, q);\n  input [1:0] p;\n  output q;\n  assign q = p[0];\n  assign q = p[1];\nendmodule\n",
+        "F16 TwoDrivers i/q",
+    ),
     ("  u i (a, y);\n", LOWER, "F15 Width t i p"),
     (
         "  u i (.p({a, b}), .r(y));\n",
