@@ -1,3 +1,7 @@
 mod Noted
 mod Viewed
 mod Faults
+mod Meetings
+mod Ends
+mod Ordered
+mod Joints

@@ -1,5 +1,6 @@
 -- What is claimed of the domains of an elaborated netlist, and of their faults (own rule).
-use Rattle.std.specs.Prelude.{◌≡◌, ℕ, not, List, [], map, Option, Some, None, option_map, is_some, slice_get}
+use Rattle.std.specs.Prelude.{◌≡◌, ℕ, Bool, false, not, List, [], map, filter, Option, Some, None, option_map, is_some, slice_get}
+use Rattle.std.specs.List.{list_any}
 use Rattle.lp_text.specs.declared.names.NameId.{NameId}
 use Rattle.lp_model.specs.declared.fault.refusal.DesignFault.TheVariants as of_design
 use Rattle.lp_model.specs.declared.fault.refusal.Fault.TheVariants as kinds
@@ -8,14 +9,18 @@ use Rattle.lp_model.specs.declared.fault.refusal.Refusal.TheVariants as refusals
 use Rattle.lp_model.specs.declared.fault.supply.SupplyFault.TheVariants as faults
 use Rattle.lp_model.specs.declared.graph.Graph.{Graph}
 use Rattle.lp_model.specs.declared.graph.Inst.{Inst}
+use Rattle.lp_model.specs.declared.ids.EdgeId.{EdgeId}
 use Rattle.lp_model.specs.declared.intent.Domain as model_domain
 use Rattle.lp_model.specs.declared.intent.Intent as model
+use Rattle.lp_model.specs.declared.supply.DomainMap.{DomainMap}
+use Rattle.lp_spec_design.specs.Keys.{Way, PortBit, AssignBit, same_way}
 use Rattle.lp_spec_design.specs.Netlists.{Structure}
 use Rattle.lp_spec_design.specs.Instances.{module_instances}
 use Rattle.lp_spec_design.specs.Intents.{Domain, Intent}
-use Rattle.lp_spec_design.specs.Domains.{first_number, domain_of}
+use Rattle.lp_spec_design.specs.Domains.{first_number, domain_of, is_boundary, boundary, way_of}
 use Rattle.lp_spec_bridge.specs.Tables.{tables_of}
-use Rattle.lp_spec_bridge.specs.Keyed.{keys_of}
+use Rattle.lp_spec_bridge.specs.Keyed.{keys_of, way_at}
+use Rattle.lp_spec_bridge.specs.Names.{HasNamesApart}
 use Rattle.lp_spec_bridge.specs.Elaborates.{Elaborates}
 use Rattle.lp_spec_faults.specs.Lines.{first_of}
 use Rattle.lp_spec_faults.specs.Domains.{no_domain, no_primary}
@@ -52,6 +57,27 @@ IsDomainFault g s i refusals.NoMemory = Unit {0}
 IsDomainFault g s i (refusals.Fault (kinds.Design (of_design.Supply (faults.NoDomain top)))) = IsNoDomain g i top
 IsDomainFault g s i (refusals.Fault (kinds.Design (of_design.Supply (faults.NoPrimary domain)))) = IsNoPrimary i domain
 IsDomainFault g s i _ = ⊥
+
+-- ---- where domains meet
+
+-- the way of a boundary bit, where it is one of a port
+abbrev pub is_boundary_way : Intent → Way → Bool
+is_boundary_way i (PortBit p n k) = is_boundary i p
+is_boundary_way i (AssignBit p a k) = false
+
+-- a boundary bit that nothing is connected to has no edge
+abbrev pub has_edge : Structure → Way → Bool
+has_edge s w = list_any (same_way w) (keys_of s).ways
+
+-- the domains, the edges that are boundary bits, and these in port order
+pub record HasBoundary (s : Structure) (i : Intent) (m : DomainMap) : Type 0 where
+  pub members : HasDomains s i m.domain_of
+  pub edges : m.boundary ≡ map (is_boundary_way i) (keys_of s).ways
+  pub bits : map (λ (e : EdgeId). way_at (keys_of s) e.0) m.bits ≡ filter (has_edge s) (map way_of (boundary s i))
+
+-- as above, of designs with names that are told apart in each module
+abbrev pub OnNamed : model.Intent → Graph → (Structure → Intent → Type 0) → Type 0
+OnNamed i g claim = OnElaborated i g (λ s by_paths. HasNamesApart s → claim s by_paths)
 
 -- ---- by numbers
 

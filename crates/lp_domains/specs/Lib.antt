@@ -1,2 +1,4 @@
 pub mod Listed
 pub mod Domains
+pub mod Boundary
+pub mod Bits
