@@ -1,12 +1,75 @@
 -- The statements of the laws of this crate (own rule).
-use Rattle.std.specs.Prelude.{◌≡◌}
-use Rattle.lp_spec_design.specs.Keys.{Node}
-use Rattle.lp_spec_design.specs.Netlists.{Structure}
-use Rattle.lp_spec_design.specs.Nodes.{nodes_of}
-use Rattle.lp_spec_design.specs.Winners.{IsIn}
-use Rattle.lp_spec_realises.specs.Projects.{numbered_node}
-use Rattle.lp_spec_resolved.specs.Supplies.{node_number}
+use Rattle.std.specs.Prelude.{◌≡◌, ◌<◌, ℕ, true, List, map, Some, None, Result, Ok, is_some}
+use Rattle.lp_model.specs.declared.library.Action.{Action}
+use Rattle.lp_model.specs.declared.intent.ScopedName.{ScopedName}
+use Rattle.lp_model.specs.NetlistView.{ModuleView}
+use Rattle.lp_model.specs.declared.intent.StrategyKind.TheVariants.{Isolation, Retention}
+use Rattle.lp_spec_design.specs.Keys.{Node, Inner, Outer, Fixed}
+use Rattle.lp_spec_design.specs.Netlists.{Structure, module_at, upward}
+use Rattle.lp_spec_design.specs.Nodes.{nodes_in, nodes_of}
+use Rattle.lp_spec_design.specs.Intents.{SetNumber, Strategy}
+use Rattle.lp_spec_design.specs.Winners.{IsIn, same_kind}
+use Rattle.lp_spec_origins.specs.Commands.{Scoped, PowerSwitch, MakesSwitch}
+use Rattle.lp_spec_origins.specs.Used.{is_used_set}
+use Rattle.lp_spec_realises.specs.Projects.{numbered_node, functions_of}
+use Rattle.lp_spec_faults.specs.Lines.{first_of}
+use Rattle.lp_spec_faults.specs.Supplies.{undriven, two_sources}
+use Rattle.lp_spec_intent.specs.Made.{Made, SetFact, sets, set_count, network}
+use Rattle.lp_spec_intent.specs.Intent.{resolved, asked}
+use Rattle.lp_spec_resolved.specs.Supplies.{node_number, project_made}
+use Rattle.lp_spec_resolved.specs.Said.{IntentFault, Intends}
 
 -- a node of a netlist is found again by its number
 abbrev pub NodesAreFound : Type 0
 NodesAreFound = (s : Structure) (k : Node) → IsIn k (nodes_of s) → numbered_node s (node_number s k) ≡ k
+
+-- each text gives something over a netlist, or has its first fault
+abbrev pub EachIsIntended : Type 0
+EachIsIntended = (s : Structure) (text : List ℕ) → (r : Result Made IntentFault) × Intends s text r
+
+-- in one way
+abbrev pub IntendedOnce : Type 0
+IntendedOnce = (s : Structure) (text : List ℕ) (a b : Result Made IntentFault) → Intends s text a → Intends s text b → a ≡ b
+
+-- a strategy that inserts clamps names its control, and one that inserts retention cells its two signals
+pub record NamesItsControls (t : Strategy) : Type 0 where
+  pub isolates : same_kind Isolation t.kind ≡ true → t.inserts ≡ true → is_some t.control ≡ true
+  pub saves : same_kind Retention t.kind ≡ true → t.inserts ≡ true → is_some t.save ≡ true
+  pub restores : same_kind Retention t.kind ≡ true → t.inserts ≡ true → is_some t.restore ≡ true
+
+abbrev pub StrategiesNameTheirControls : Type 0
+StrategiesNameTheirControls = (s : Structure) (text : List ℕ) (m : Made) → Intends s text (Ok m) → (t : Strategy) → IsIn t (resolved m).strategies → NamesItsControls t
+
+-- each used set has its origins by its number, where F37 and F38 hold nowhere
+abbrev pub SetsHaveOrigins : Type 0
+SetsHaveOrigins =
+    (s : Structure) (text : List ℕ) (m : Made) (name : Scoped → ScopedName) (margin : ℕ)
+    → Intends s text (Ok m)
+    → first_of (undriven (asked m)) ≡ None
+    → first_of (two_sources (asked m)) ≡ None
+    → (k : SetNumber) → is_used_set (resolved m) k ≡ true
+    → is_some (functions_of (project_made s name m margin) (Some k)) ≡ true
+
+-- sets are numbered in the order of their commands, and whatever names a set names one of them
+pub record HasSets (m : Made) : Type 0 where
+  pub numbered : map (λ (x : SetFact). x.number) (sets m) ≡ upward (set_count m) 0
+  pub used : (k : SetNumber) → is_used_set (resolved m) k ≡ true → k < set_count m
+
+abbrev pub SetsAreNumbered : Type 0
+SetsAreNumbered = (s : Structure) (text : List ℕ) (m : Made) → Intends s text (Ok m) → HasSets m
+
+-- a net bit that its instance declares
+abbrev pub IsDeclaredBit : Structure → Node → Type 0
+IsDeclaredBit s (Inner n i x) = (m : ModuleView) → module_at s x ≡ Some m → IsIn (Inner n i x) (nodes_in x (Some m))
+IsDeclaredBit s (Outer n i) = ⊥
+IsDeclaredBit s (Fixed b) = ⊥
+
+-- the controls of strategies and of switches are such
+pub record HasDeclaredControls (s : Structure) (m : Made) : Type 0 where
+  pub enables : (t : Strategy) (k : Node) → IsIn t (resolved m).strategies → t.control ≡ Some k → IsDeclaredBit s k
+  pub saves : (t : Strategy) (k : Node × Action) → IsIn t (resolved m).strategies → t.save ≡ Some k → IsDeclaredBit s k.0
+  pub restores : (t : Strategy) (k : Node × Action) → IsIn t (resolved m).strategies → t.restore ≡ Some k → IsDeclaredBit s k.0
+  pub switches : (w : PowerSwitch) → IsIn (MakesSwitch w) (network m) → IsDeclaredBit s w.control
+
+abbrev pub ControlsAreDeclared : Type 0
+ControlsAreDeclared = (s : Structure) (text : List ℕ) (m : Made) → Intends s text (Ok m) → HasDeclaredControls s m

@@ -1,2 +1,4 @@
 pub mod Supplies
+pub mod Complete
+pub mod Said
 pub mod Laws

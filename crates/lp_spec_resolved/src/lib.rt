@@ -3,4 +3,7 @@
 
 mod laws;
 
-pub use laws::nodes_are_found;
+pub use laws::{
+    controls_are_declared, nodes_are_found, sets_are_numbered, sets_have_origins,
+    strategies_name_their_controls, text_is_intended, text_is_intended_once,
+};
