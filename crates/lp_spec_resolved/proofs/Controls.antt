@@ -31,7 +31,7 @@ use Rattle.lp_spec_resolved.proofs.Facts.{All, Has, word_for, made-have, known-o
 
 -- ---- no fault of names
 
-none-earliest : (faults : List NameFault) → earliest faults ≡ None → faults ≡ []
+pub none-earliest : (faults : List NameFault) → earliest faults ≡ None → faults ≡ []
 none-earliest [] e = refl
 none-earliest (f ∷ faults) e = absurd cc
 
@@ -159,7 +159,7 @@ has-named : (s : Structure) (m : Made) (c : CommandView) → IsComplete c → ea
 has-named s m c h f = record {
   new_domain = λ w. tt;
   named_handle = λ d g k w e. tt;
-  new_port = λ a i. tt;
+  new_port = λ a i e. tt;
   new_net = λ w. tt;
   connects = λ a ps. tt;
   own_set = λ w e. tt;

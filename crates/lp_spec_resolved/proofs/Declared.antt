@@ -106,7 +106,7 @@ module _ (s : Structure) (m : Made) (c : CommandView) where
   has-declared = record {
     new_domain = λ w. tt;
     named_handle = λ d g k w e. tt;
-    new_port = λ a i. tt;
+    new_port = λ a i e. tt;
     new_net = λ w. tt;
     connects = λ a ps. tt;
     own_set = λ w e. tt;

@@ -57,7 +57,7 @@ word_for Retention = commands.SetRetention
 pub record Has (s : Structure) (m : Made) (c : CommandView) (P : Fact → Type 0) : Type 0 where
   pub new_domain : (w : WordView) → P (IsDomain (own m w) (elements_made s m c))
   pub named_handle : (d : ℕ) (h : Handle) (k : SetNumber) (w : WordView) → set s m w ≡ Some k → P (IsHandle d h k)
-  pub new_port : (a : Scoped) (input : Bool) → P (IsPort a input)
+  pub new_port : (a : Scoped) (input : Bool) → c.word ≡ commands.CreateSupplyPort → P (IsPort a input)
   pub new_net : (w : WordView) → P (IsNet (own m w))
   pub connects : (a : Scoped) (ps : List Scoped) → P (AreConnected a ps)
   pub own_set : (w : WordView) → c.word ≡ commands.CreateSupplySet → P (IsSet (set_count m) (Own (own m w)) (functions_made s m c))
@@ -86,8 +86,8 @@ module _ (s : Structure) (m : Made) (c : CommandView) (P : Fact → Type 0) (h :
       (of-each P (λ w. IsDomain (own m w) (elements_made s m c)) (own_words c) (λ w i. h.new_domain w))
       (of-lists P (handle_by s m c) (all_values c options.Supply) (λ ws i. handles ws))
 
-  in-port : All P (port_facts s m c)
-  in-port f i = let found = of-map _ f (own_words c) i in subst (λ y. P y) (sym found.2) (h.new_port _ _)
+  in-port : c.word ≡ commands.CreateSupplyPort → All P (port_facts s m c)
+  in-port e f i = let found = of-map _ f (own_words c) i in subst (λ y. P y) (sym found.2) (h.new_port _ _ e)
 
   in-net : All P (net_facts s m c)
   in-net f i = by (has c options.Reuse) i
@@ -178,7 +178,7 @@ module _ (s : Structure) (m : Made) (c : CommandView) (P : Fact → Type 0) (h :
 
   in-command : (word : CommandWord) → c.word ≡ word → All P (facts_by s m c word)
   in-command commands.CreatePowerDomain e = in-domain
-  in-command commands.CreateSupplyPort e = in-port
+  in-command commands.CreateSupplyPort e = in-port e
   in-command commands.CreateSupplyNet e = in-net
   in-command commands.ConnectSupplyNet e = in-connection
   in-command commands.CreateSupplySet e = in-set e

@@ -195,7 +195,7 @@ module _ (m : Made) (kept : IsKept m) where
 
 -- ---- what a command adds
 
-append-none : {A : Type 0} (xs : List A) → xs ++ [] ≡ xs
+pub append-none : {A : Type 0} (xs : List A) → xs ++ [] ≡ xs
 append-none [] = refl
 append-none (x ∷ xs) = ap (λ ys. x ∷ ys) (append-none xs)
 
@@ -227,7 +227,7 @@ own-one-of p word None os = inl refl
 own-one-of p word (Some w) os = inr (w, refl)
 
 -- a command has one name or none
-own-one : (c : CommandView) → (own_words c ≡ []) ⊎ ((w : WordView) × (own_words c ≡ w ∷ []))
+pub own-one : (c : CommandView) → (own_words c ≡ []) ⊎ ((w : WordView) × (own_words c ≡ w ∷ []))
 own-one c = own-one-of c.place c.word c.name c.options
 
 module _ (s : Structure) (m : Made) (c : CommandView) where
@@ -264,7 +264,7 @@ module _ (s : Structure) (m : Made) (c : CommandView) where
   others = record {
     new_domain = λ w a b. refl;
     named_handle = λ d g k w e a b. refl;
-    new_port = λ x i a b. refl;
+    new_port = λ x i e a b. refl;
     new_net = λ w a b. refl;
     connects = λ x ps a b. refl;
     own_set = λ w e a b. absurd (a e);
@@ -403,7 +403,7 @@ module _ (s : Structure) (m : Made) (c : CommandView) (kept : IsKept m) where
   new-keeps = record {
     new_domain = λ w. tt;
     named_handle = λ d h k w e. small w k e;
-    new_port = λ x i. tt;
+    new_port = λ x i e. tt;
     new_net = λ w. tt;
     connects = λ x ps. tt;
     own_set = λ w e. record {

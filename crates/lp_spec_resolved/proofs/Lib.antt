@@ -8,3 +8,5 @@ pub mod Whole
 pub mod Kept
 pub mod Origins
 pub mod Declared
+pub mod Named
+pub mod Switches

@@ -50,7 +50,7 @@ right-true : (a b : Bool) → b ≡ true → (a || b) ≡ true
 right-true true b e = refl
 right-true false b e = e
 
-slice-numbered : {A B : Type 0} (f : ℕ × A → B) (j k : ℕ) (xs : List A) (x : A) → slice_get xs k ≡ Some x → slice_get (map f (numbered j xs)) k ≡ Some (f (k + j, x))
+pub slice-numbered : {A B : Type 0} (f : ℕ × A → B) (j k : ℕ) (xs : List A) (x : A) → slice_get xs k ≡ Some x → slice_get (map f (numbered j xs)) k ≡ Some (f (k + j, x))
 slice-numbered f j k [] x e = absurd cc
 slice-numbered f j zero (y ∷ xs) x e =
     let same : j ≡ 0 + j = omega arith in
@@ -73,12 +73,12 @@ slice-there [] k h = absurd (omega (arith, h))
 slice-there (x ∷ xs) zero h = (x, refl)
 slice-there (x ∷ xs) (suc k) h = slice-there xs k (omega (arith, h))
 
-slice-in : {A : Type 0} (xs : List A) (k : ℕ) (x : A) → slice_get xs k ≡ Some x → IsIn x xs
+pub slice-in : {A : Type 0} (xs : List A) (k : ℕ) (x : A) → slice_get xs k ≡ Some x → IsIn x xs
 slice-in [] k x e = absurd cc
 slice-in (y ∷ xs) zero x e = inl (sym (some-same y x e))
 slice-in (y ∷ xs) (suc k) x e = inr (slice-in xs k x e)
 
-slice-map : {A B : Type 0} (f : A → B) (xs : List A) (k : ℕ) (x : A) → slice_get xs k ≡ Some x → slice_get (map f xs) k ≡ Some (f x)
+pub slice-map : {A B : Type 0} (f : A → B) (xs : List A) (k : ℕ) (x : A) → slice_get xs k ≡ Some x → slice_get (map f xs) k ≡ Some (f x)
 slice-map f [] k x e = absurd cc
 slice-map f (y ∷ xs) zero x e = ap (λ z. Some (f z)) (some-same y x e)
 slice-map f (y ∷ xs) (suc k) x e = slice-map f xs k x e
@@ -106,7 +106,7 @@ some-six _ _ _ _ _ _ g h i j k l = cc
 none-some : {A : Type 0} {x : A} → None ≡ Some x → ⊥
 none-some e = cc
 
-in-some : {A B : Type 0} (f : A → Option B) (a : A) (b : B) (xs : List A) → IsIn a xs → f a ≡ Some b → IsIn b (some_of f xs)
+pub in-some : {A B : Type 0} (f : A → Option B) (a : A) (b : B) (xs : List A) → IsIn a xs → f a ≡ Some b → IsIn b (some_of f xs)
 in-some f a b [] i e = absurd i
 in-some f a b (x ∷ xs) i e = by (f x) refl (in-some f a b xs)
   where
@@ -114,7 +114,7 @@ in-some f a b (x ∷ xs) i e = by (f x) refl (in-some f a b xs)
     by None g more = elim i [ inl is ↦ absurd (none-some (sym g ∙ (ap f (sym is) ∙ e))) | inr rest ↦ more rest e ]
     by (Some y) g more = elim i [ inl is ↦ inl (some-same b y (sym e ∙ (ap f is ∙ g))) | inr rest ↦ inr (more rest e) ]
 
-scoped-self : (a : Scoped) → same_scoped a a ≡ true
+pub scoped-self : (a : Scoped) → same_scoped a a ≡ true
 scoped-self a = ap (λ b. b && same_path a.scope a.scope) (name-self a.name) ∙ path-self a.scope
 
 -- ---- used sets have been made

@@ -1,6 +1,6 @@
 -- What a text gives, and what holds of it.
-use Rattle.std.proofs.Common.{◌≡◌, ℕ, Bool, true, false, List, [], Option, Some, None, refl, sym, ap, ◌∙◌, subst}
-use Rattle.std.specs.Prelude.{if◌then◌else◌, is_some, Result, Ok, Err}
+use Rattle.std.proofs.Common.{◌≡◌, ◌≤◌, ℕ, Bool, true, false, List, [], length, Option, Some, None, refl, sym, ap, ◌∙◌, subst}
+use Rattle.std.specs.Prelude.{if◌then◌else◌, is_some, slice_get, Result, Ok, Err}
 use Rattle.lp_model.specs.declared.fault.intent.IntentLimit.{IntentLimit}
 use Rattle.lp_model.specs.declared.fault.intent.IntentLimit.TheVariants as limits
 use Rattle.lp_model.specs.declared.intent.ScopedName.{ScopedName}
@@ -8,14 +8,14 @@ use Rattle.lp_model.specs.CommandsView.{CommandView}
 use Rattle.lp_spec_upf.specs.Commands as upf
 use Rattle.lp_spec_upf.proofs.Once.{once}
 use Rattle.lp_spec_upf.proofs.Senses as senses
-use Rattle.lp_spec_design.specs.Keys.{Name}
-use Rattle.lp_spec_design.specs.Netlists.{Structure}
-use Rattle.lp_spec_design.specs.Intents.{SetNumber, Strategy}
+use Rattle.lp_spec_design.specs.Keys.{Name, Path, Node}
+use Rattle.lp_spec_design.specs.Netlists.{Structure, module_at}
+use Rattle.lp_spec_design.specs.Intents.{SetNumber, Strategy, FromSwitch}
 use Rattle.lp_spec_design.specs.Winners.{IsIn}
 use Rattle.lp_spec_design.proofs.Members.{of-map, of-some}
 use Rattle.lp_spec_origins.specs.Commands.{Scoped, PowerSwitch, MakesSwitch}
 use Rattle.lp_spec_origins.specs.Used.{is_used_set}
-use Rattle.lp_spec_realises.specs.Projects.{functions_of}
+use Rattle.lp_spec_realises.specs.Projects.{network_of, functions_of}
 use Rattle.lp_spec_faults.specs.Lines.{first_of}
 use Rattle.lp_spec_faults.specs.Supplies.{intent_limits, undriven, two_sources}
 use Rattle.lp_spec_intent.specs.Made.{Fact, IsStrategy, IsSwitch, Made, network_fact, network, facts, StrategyFact, strategy_fact, strategies}
@@ -25,8 +25,11 @@ use Rattle.lp_spec_intent.proofs.Places.{some-same}
 use Rattle.lp_spec_resolved.specs.Complete.{IsComplete}
 use Rattle.lp_spec_resolved.specs.Supplies.{project_made}
 use Rattle.lp_spec_resolved.specs.Said.{IntentFault, OfLimit, within, named, intended, is_too_long, Intends}
-use Rattle.lp_spec_resolved.specs.Laws.{NamesItsControls, HasSets, HasDeclaredControls}
+use Rattle.lp_spec_resolved.specs.Laws.{IsOfSwitch, PortsHaveTheirNames, NamesItsControls, HasSets, HasDeclaredControls}
 use Rattle.lp_spec_resolved.proofs.Read.{commands-complete}
+use Rattle.lp_spec_resolved.proofs.Named.{ports-apart, named-once}
+use Rattle.lp_spec_intent.proofs.Sound.{names-stand-inside}
+use Rattle.lp_spec_resolved.proofs.Switches.{switch-kept}
 use Rattle.lp_spec_resolved.proofs.Facts.{All}
 use Rattle.lp_spec_resolved.proofs.Declared.{Declares, HasDeclared, all-declared}
 use Rattle.lp_spec_resolved.proofs.Kept.{all-kept}
@@ -127,3 +130,15 @@ controls-declared s text m x = record {
 
     sound : (y : StrategyFact) → IsIn y (strategies m) → Declares s y.strategy
     sound y i = let found = of-some strategy_fact y (facts m) i in subst (λ f. HasDeclared s f) (strategy-known found.0 y found.2) (all found.0 found.1)
+
+pub origins-named : (s : Structure) (text : List ℕ) (m : Made) (name : Scoped → ScopedName) (margin : ℕ) → Intends s text (Ok m) → PortsHaveTheirNames (project_made s name m margin)
+origins-named s text m name margin x =
+    let from = made-from s text m x in
+    named-once s name m margin (ports-apart s from.0 m from.2)
+
+pub switches-kept : (s : Structure) (text : List ℕ) (m : Made) (name : Scoped → ScopedName) (margin : ℕ) → is_some (module_at s []) ≡ true → ((p : Path) → 64 ≤ length p → module_at s p ≡ None) → Intends s text (Ok m)
+    → (o input : ℕ) (k : Node) (high : Bool) → slice_get (network_of (project_made s name m margin)).origins o ≡ Some (FromSwitch input k high) → IsOfSwitch s m o k high
+switches-kept s text m name margin top shallow x =
+    let from = made-from s text m x in
+    let inside = names-stand-inside s from.0 m top from.2 in
+    switch-kept s name m margin shallow inside.controls inside.scopes (controls-declared s text m x).switches

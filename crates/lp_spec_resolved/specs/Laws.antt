@@ -1,22 +1,24 @@
 -- The statements of the laws of this crate (own rule).
-use Rattle.std.specs.Prelude.{◌≡◌, ◌<◌, ℕ, true, List, map, Some, None, Result, Ok, is_some}
+use Rattle.std.specs.Prelude.{◌≡◌, ◌≤◌, ◌<◌, ℕ, Bool, true, List, [], map, length, slice_get, unwrap_or, Some, None, Result, Ok, is_some}
 use Rattle.lp_model.specs.declared.library.Action.{Action}
 use Rattle.lp_model.specs.declared.intent.ScopedName.{ScopedName}
 use Rattle.lp_model.specs.NetlistView.{ModuleView}
 use Rattle.lp_model.specs.declared.intent.StrategyKind.TheVariants.{Isolation, Retention}
-use Rattle.lp_spec_design.specs.Keys.{Node, Inner, Outer, Fixed}
+use Rattle.lp_spec_design.specs.Keys.{Path, Node, Inner, Outer, Fixed}
 use Rattle.lp_spec_design.specs.Netlists.{Structure, module_at, upward}
 use Rattle.lp_spec_design.specs.Nodes.{nodes_in, nodes_of}
-use Rattle.lp_spec_design.specs.Intents.{SetNumber, Strategy}
+use Rattle.lp_spec_design.specs.Intents.{SetNumber, Strategy, FromPort, FromSwitch}
 use Rattle.lp_spec_design.specs.Winners.{IsIn, same_kind}
 use Rattle.lp_spec_origins.specs.Commands.{Scoped, PowerSwitch, MakesSwitch}
+use Rattle.lp_spec_origins.specs.Origins.{OfSwitch, sources}
 use Rattle.lp_spec_origins.specs.Used.{is_used_set}
-use Rattle.lp_spec_realises.specs.Projects.{numbered_node, functions_of}
+use Rattle.lp_spec_realises.specs.Projects.{Project, network_of, numbered_node, functions_of}
 use Rattle.lp_spec_faults.specs.Lines.{first_of}
 use Rattle.lp_spec_faults.specs.Supplies.{undriven, two_sources}
 use Rattle.lp_spec_intent.specs.Made.{Made, SetFact, sets, set_count, network}
+use Rattle.lp_spec_intent.specs.Laws.{StandsInside}
 use Rattle.lp_spec_intent.specs.Intent.{resolved, asked}
-use Rattle.lp_spec_resolved.specs.Supplies.{node_number, project_made}
+use Rattle.lp_spec_resolved.specs.Supplies.{node_number, project_made, lists_made}
 use Rattle.lp_spec_resolved.specs.Said.{IntentFault, Intends}
 
 -- a node of a netlist is found again by its number
@@ -73,3 +75,35 @@ pub record HasDeclaredControls (s : Structure) (m : Made) : Type 0 where
 
 abbrev pub ControlsAreDeclared : Type 0
 ControlsAreDeclared = (s : Structure) (text : List ℕ) (m : Made) → Intends s text (Ok m) → HasDeclaredControls s m
+
+-- two supply ports of the top have two names
+abbrev pub PortsHaveTheirNames : Project → Type 0
+PortsHaveTheirNames p =
+    (o r : ℕ)
+    → slice_get (network_of p).origins o ≡ Some FromPort
+    → slice_get (network_of p).origins r ≡ Some FromPort
+    → unwrap_or (slice_get p.origin_names o) [] ≡ unwrap_or (slice_get p.origin_names r) []
+    → o ≡ r
+
+abbrev pub OriginsAreNamed : Type 0
+OriginsAreNamed = (s : Structure) (text : List ℕ) (m : Made) (name : Scoped → ScopedName) (margin : ℕ) → Intends s text (Ok m) → PortsHaveTheirNames (project_made s name m margin)
+
+-- an origin of a project is a switch with the control, the sense and the scope of its command
+pub record IsOfSwitch (s : Structure) (m : Made) (o : ℕ) (k : Node) (high : Bool) : Type 0 where
+  pub switch : PowerSwitch
+  pub source : slice_get (sources (network m)) o ≡ Some (OfSwitch switch)
+  pub control : switch.control ≡ k
+  pub sense : switch.high ≡ high
+  pub inside : StandsInside s k
+  pub scope : (lists_made m).scope_of_switch o ≡ switch.name.scope
+  pub instance : is_some (module_at s ((lists_made m).scope_of_switch o)) ≡ true
+
+-- over a netlist with a top, no module instance of which is deeper than 64
+abbrev pub SwitchesAreKept : Type 0
+SwitchesAreKept =
+    (s : Structure) (text : List ℕ) (m : Made) (name : Scoped → ScopedName) (margin : ℕ)
+    → is_some (module_at s []) ≡ true
+    → ((p : Path) → 64 ≤ length p → module_at s p ≡ None)
+    → Intends s text (Ok m)
+    → (o input : ℕ) (k : Node) (high : Bool) → slice_get (network_of (project_made s name m margin)).origins o ≡ Some (FromSwitch input k high)
+    → IsOfSwitch s m o k high

@@ -4,9 +4,11 @@ ghost use Rattle.lp_spec_resolved.specs.Laws.{
   EachIsIntended,
   IntendedOnce,
   NodesAreFound,
+  OriginsAreNamed,
   SetsAreNumbered,
   SetsHaveOrigins,
   StrategiesNameTheirControls,
+  SwitchesAreKept,
 };
 
 /// A node of a netlist, as which the control of a switch is numbered, is found again by its number.
@@ -46,4 +48,15 @@ pub fn sets_have_origins()
 /// declare.
 pub fn controls_are_declared()
     ensures { ControlsAreDeclared }
+{}
+
+/// In the project that a text of power intent gives, two supply ports of the top have two names.
+pub fn origins_are_named()
+    ensures { OriginsAreNamed }
+{}
+
+/// In the project that a text of power intent gives over a netlist with a top, no module instance of which is deeper
+/// than 64, each switch has the control and the sense of its command, and its scope, which is an instance.
+pub fn switches_are_kept()
+    ensures { SwitchesAreKept }
 {}
