@@ -44,11 +44,11 @@ use Rattle.lp_domains.proofs.Ordered.{bit_way, in-order}
 
 -- ---- lists
 
-map-in : {A B : Type 0} (f g : A → B) (xs : List A) → ((x : A) → IsIn x xs → f x ≡ g x) → map f xs ≡ map g xs
+pub map-in : {A B : Type 0} (f g : A → B) (xs : List A) → ((x : A) → IsIn x xs → f x ≡ g x) → map f xs ≡ map g xs
 map-in f g [] h = refl
 map-in f g (x ∷ xs) h = (λ r. h x (inl refl) r ∷ map-in f g xs (λ y m. h y (inr m)) r)
 
-in-index : {A : Type 0} (x : A) (xs : List A) → IsIn x xs → (m : ℕ) × (slice_get xs m ≡ Some x)
+pub in-index : {A : Type 0} (x : A) (xs : List A) → IsIn x xs → (m : ℕ) × (slice_get xs m ≡ Some x)
 in-index x [] h = absurd h
 in-index x (y ∷ ys) (inl is) = (0, ap (λ z. Some z) (sym is))
 in-index x (y ∷ ys) (inr h) = let found = in-index x ys h in (suc found.0, found.1)
@@ -156,6 +156,10 @@ joints-at n xs k low =
 pub length-joints : (n : ℕ) (xs : List EdgeRow) → length (joints n xs) ≡ n
 length-joints n xs = length-from (replicate n None) 0 xs ∙ length-replicate n None
 
+-- an edge of no design
+abbrev pub nothing : EdgeRow
+nothing = record { from = FromConst true; to = record { 0 = 0 }; kind = Assign }
+
 -- ---- ways and net bits
 
 way-back : (w : Way) (k : Node) → Some k ≡ way_bit w → bit_way k ≡ w
@@ -195,7 +199,7 @@ module _ (texts : List (List ℕ)) (s : Structure) (t : Tables) (e : Elaborates 
       ∙ sym (map-map way_bit (λ (x : Edge). x.way) (edges_of s))
 
   -- the net bit inside of an edge is that of its way
-  inner-at : (m : ℕ) (x : EdgeRow) → slice_get t.edges m ≡ Some x → option_map node_of_id (inner_end x) ≡ way_bit (way_at (keys_of s) m)
+  pub inner-at : (m : ℕ) (x : EdgeRow) → slice_get t.edges m ≡ Some x → option_map node_of_id (inner_end x) ≡ way_bit (way_at (keys_of s) m)
   inner-at m x h =
       let low = slice_get_within t.edges m x h in
       let here : get_or t.edges m x ≡ x = get_or_from_slice_get t.edges m x x h in
@@ -204,13 +208,13 @@ module _ (texts : List (List ℕ)) (s : Structure) (t : Tables) (e : Elaborates 
 
   -- ---- the instance of a net bit
 
-  inner-low : (k : ℕ) (n : Name) (j : Option ℕ) (p : Path) → node_at (keys_of s) k ≡ Inner n j p → k < length (inner_nodes s)
+  pub inner-low : (k : ℕ) (n : Name) (j : Option ℕ) (p : Path) → node_at (keys_of s) k ≡ Inner n j p → k < length (inner_nodes s)
   inner-low k n j p h = elim (cases_lt k (length (inner_nodes s))) [
     | inl low ↦ low
     | inr high ↦ absurd (outer-not (module_at s []) (k - length (inner_nodes s)) n j p (sym (get_or-append_right (inner_nodes s) (outer_in (module_at s [])) (length (inner_nodes s)) k (Fixed false) refl high) ∙ h))
   ]
 
-  node-here : (k : ℕ) → k < length (inner_nodes s) → get_or (inner_nodes s) k (Fixed false) ≡ node_at (keys_of s) k
+  pub node-here : (k : ℕ) → k < length (inner_nodes s) → get_or (inner_nodes s) k (Fixed false) ≡ node_at (keys_of s) k
   node-here k low = sym (get_or_append_left (inner_nodes s) (outer_in (module_at s [])) (Fixed false) k low)
 
   node-row : (k : ℕ) (n : Name) (j : Option ℕ) (p : Path) → node_at (keys_of s) k ≡ Inner n j p → (row : NodeRow) × (slice_get t.nodes k ≡ Some row) × (get_or (module_instances s) row.inst.0 [] ≡ p)
@@ -219,9 +223,6 @@ module _ (texts : List (List ℕ)) (s : Structure) (t : Tables) (e : Elaborates 
       let there : slice_get (inner_nodes s) k ≡ Some (Inner n j p) = slice_get-get_or (inner_nodes s) k (Fixed false) low ∙ ap (λ z. Some z) (node-here k low ∙ h) in
       let row = of-map-get (λ (x : NodeRow). inner_key texts (slice_index_or (module_instances s) x.inst.0 []) x.name) (take t.inner t.nodes) k (Inner n j p) (ap (λ xs. slice_get xs k) e.inner_bits ∙ there) in
       (row.0, take-get t.inner t.nodes k row.0 row.1, path-named texts (slice_index_or (module_instances s) row.0.inst.0 []) row.0.name n j p row.2)
-
-  abbrev nothing : EdgeRow
-  nothing = record { from = FromConst true; to = record { 0 = 0 }; kind = Assign }
 
   module _ (told : List Bool) (is : told ≡ map (is_boundary i) (module_instances s)) where
     told-path : (k : ℕ) → get_or told k true ≡ is_boundary i (get_or (module_instances s) k [])
@@ -251,7 +252,7 @@ module _ (texts : List (List ℕ)) (s : Structure) (t : Tables) (e : Elaborates 
         ∙ flag-at m (get_or t.edges m nothing) (slice_get-get_or t.edges m nothing here)
         ∙ sym (get_or-image (is_boundary_way i) (keys_of s).ways m (AssignBit [] 0 0)))
 
-  of-image : (o : Option NodeId) (x : Node) → option_map node_of_id o ≡ Some x → (k : NodeId) × (o ≡ Some k) × (node_of_id k ≡ x)
+  pub of-image : (o : Option NodeId) (x : Node) → option_map node_of_id o ≡ Some x → (k : NodeId) × (o ≡ Some k) × (node_of_id k ≡ x)
   of-image None x h = absurd cc
   of-image (Some k) x h = let is : node_of_id k ≡ x = cc in (k, refl, is)
 

@@ -5,3 +5,5 @@ mod Meetings
 mod Ends
 mod Ordered
 mod Joints
+mod Flagged
+mod Unread

@@ -74,12 +74,12 @@ some-is a b e = cc
 
 -- ---- of one instance
 
-abbrev bits_list : Path → Option ModuleView → List BoundaryBit
+abbrev pub bits_list : Path → Option ModuleView → List BoundaryBit
 bits_list p None = []
 bits_list p (Some m) = flat_map (λ (x : PortView). map (λ i. record { path = p; port = x; index = i }) (indices x.range)) m.ports
 
 module _ (s : Structure) where
-  bits-are : (p : Path) (o : Option ModuleView) → module_at s p ≡ o → bits_of s p ≡ bits_list p o
+  pub bits-are : (p : Path) (o : Option ModuleView) → module_at s p ≡ o → bits_of s p ≡ bits_list p o
   bits-are p None e = rw e refl
   bits-are p (Some m) e = rw e refl
 

@@ -18,6 +18,7 @@ use Rattle.lp_spec_design.specs.Netlists.{Structure}
 use Rattle.lp_spec_design.specs.Instances.{module_instances}
 use Rattle.lp_spec_design.specs.Intents.{Domain, Intent}
 use Rattle.lp_spec_design.specs.Domains.{first_number, domain_of, is_boundary, boundary, way_of}
+use Rattle.lp_spec_design.specs.Chains.{bit_of_way}
 use Rattle.lp_spec_bridge.specs.Tables.{tables_of}
 use Rattle.lp_spec_bridge.specs.Keyed.{keys_of, way_at}
 use Rattle.lp_spec_bridge.specs.Names.{HasNamesApart}
@@ -60,11 +61,6 @@ IsDomainFault g s i _ = ⊥
 
 -- ---- where domains meet
 
--- the way of a boundary bit, where it is one of a port
-abbrev pub is_boundary_way : Intent → Way → Bool
-is_boundary_way i (PortBit p n k) = is_boundary i p
-is_boundary_way i (AssignBit p a k) = false
-
 -- a boundary bit that nothing is connected to has no edge
 abbrev pub has_edge : Structure → Way → Bool
 has_edge s w = list_any (same_way w) (keys_of s).ways
@@ -72,7 +68,7 @@ has_edge s w = list_any (same_way w) (keys_of s).ways
 -- the domains, the edges that are boundary bits, and these in port order
 pub record HasBoundary (s : Structure) (i : Intent) (m : DomainMap) : Type 0 where
   pub members : HasDomains s i m.domain_of
-  pub edges : m.boundary ≡ map (is_boundary_way i) (keys_of s).ways
+  pub edges : m.boundary ≡ map (λ w. is_some (bit_of_way s i w)) (keys_of s).ways
   pub bits : map (λ (e : EdgeId). way_at (keys_of s) e.0) m.bits ≡ filter (has_edge s) (map way_of (boundary s i))
 
 -- as above, of designs with names that are told apart in each module
@@ -89,3 +85,8 @@ unlisted_top _ _ = None
 -- the first domain without a primary supply
 abbrev pub without_primary : List model_domain.Domain → Option ℕ
 without_primary ds = first_number (λ (d : model_domain.Domain). not (is_some d.primary)) 0 ds
+
+-- whether a way is one of a port of an instance at which domains meet
+abbrev pub is_boundary_way : Intent → Way → Bool
+is_boundary_way i (PortBit p n k) = is_boundary i p
+is_boundary_way i (AssignBit p a k) = false

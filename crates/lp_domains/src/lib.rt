@@ -4,8 +4,10 @@
 mod bits;
 mod boundary;
 mod domain_map;
+mod laws;
 mod listed;
 mod members;
 
 pub use domain_map::domains;
+pub use laws::unconnected_bits_have_no_readers;
 pub use members::instance_domains;

@@ -1,14 +1,18 @@
 use Rattle.std.proofs.Common.{◌≡◌, map, ap, ◌∙◌}
+use Rattle.std.specs.Prelude.{is_some}
 use Rattle.lp_model.specs.declared.ids.EdgeId.{EdgeId}
 use Rattle.lp_spec_design.specs.Instances.{module_instances}
 use Rattle.lp_spec_design.specs.Domains.{is_boundary}
+use Rattle.lp_spec_design.specs.Chains.{bit_of_way}
 use Rattle.lp_spec_bridge.specs.Tables.{tables_of}
 use Rattle.lp_spec_bridge.specs.Keyed.{keys_of, way_at}
 use Rattle.lp_spec_views.specs.Views.{intent_view}
+use Rattle.lp_domains.specs.Domains.{is_boundary_way}
 use Rattle.lp_domains.specs.Boundary.{meetings, meeting_edges}
 use Rattle.lp_domains.specs.Bits.{joints, bits_by}
 use Rattle.lp_domains.proofs.Meetings.{meetings-key}
-use Rattle.lp_domains.proofs.Joints.{flags-key, bits-key}
+use Rattle.lp_domains.proofs.Joints.{map-in, flags-key, bits-key}
+use Rattle.lp_domains.proofs.Flagged.{is-bit}
 use Rattle.lp_domains.proofs.domain_map.domains.Goals as goal
 
 pub returns-clause-ok : goal.returns-clause-ok
@@ -28,6 +32,6 @@ returns-clause-ok c = λ texts s e r n.
     let bits = c.in_ok-bits.ensures ∙ (λ v. bits_by ((c.as_slice-5.ensures ∙ edges) v) (joints c.args.graph.now.inner (c.as_slice-edges.ensures v))) in
     record {
       members = members;
-      edges = edges;
+      edges = edges ∙ map-in (is_boundary_way i) (λ w. is_some (bit_of_way s i w)) (keys_of s).ways (is-bit texts s (tables_of g) e n i);
       bits = ap (map (λ (x : EdgeId). way_at (keys_of s) x.0)) bits ∙ bits-key texts s (tables_of g) e n i;
     }
