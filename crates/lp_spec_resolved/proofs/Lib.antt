@@ -1,3 +1,4 @@
+mod ComputedNames
 mod ComputedSupplies
 pub mod Numbers
 pub mod Read
