@@ -1,0 +1,8 @@
+mod Values
+mod Agreeing
+mod LeastChoice
+mod Rows
+mod Slots
+mod Joining
+mod Joints
+mod Clamping
