@@ -1,0 +1,6 @@
+mod Lists
+mod Fed
+mod Named
+mod Seen
+mod InputBits
+mod Tabled

@@ -1,0 +1,12 @@
+pub mod Held
+pub mod Labels
+pub mod Sites
+pub mod Wires
+pub mod Fed
+pub mod Rows
+pub mod Nodes
+pub mod Plans
+pub mod Inputs
+pub mod Shapes
+pub mod Insts
+pub mod Graph
