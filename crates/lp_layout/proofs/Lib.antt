@@ -4,3 +4,4 @@ mod Named
 mod Seen
 mod InputBits
 mod Tabled
+pub mod Noted

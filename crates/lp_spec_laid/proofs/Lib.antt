@@ -1,0 +1,6 @@
+mod Named
+mod Nodes
+mod Rows
+mod Fed
+mod Counted
+mod Laid
