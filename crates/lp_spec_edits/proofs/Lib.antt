@@ -1,0 +1,9 @@
+pub mod Closed
+mod Computed
+pub mod Edited
+pub mod Ends
+pub mod Entries
+pub mod Gaps
+pub mod Joined
+pub mod Splits
+pub mod Wires
