@@ -1,0 +1,5 @@
+mod Voltages
+mod Inputs
+mod Ends
+mod Network
+mod Whole
