@@ -1,6 +1,7 @@
 -- All that is laid out, in one.
 use Rattle.std.proofs.Common.{◌≡◌, ℕ, zero, suc, ◌+◌, ◌<◌, List, [], ◌∷◌, ◌++◌, length, take, drop, Option, Some, None, refl, sym, ap, ◌∙◌, arith}
-use Rattle.std.specs.Prelude.{map, flat_map, slice_get}
+use Rattle.std.specs.Prelude.{true, map, flat_map, slice_get}
+use Rattle.std.specs.List.{list_all}
 use Rattle.std.proofs.lemmas.List.{map-append, length-map, length-append}
 use Rattle.lp_model.specs.declared.graph.Node.{Node as NodeRow}
 use Rattle.lp_model.specs.declared.graph.NodeName.{NodeName}
@@ -33,10 +34,11 @@ use Rattle.lp_layout.specs.Nodes.{named_at, module_nodes, site_nodes, inner_node
 use Rattle.lp_layout.specs.Wires.{fed}
 use Rattle.lp_layout.specs.Graph.{layout_at, bare, wires_at, own_name, insts_at, laid}
 use Rattle.lp_layout.proofs.Noted.{sources_of, names_of, fed_edges, fed_names, fed_sources}
+use Rattle.lp_spec_laid.specs.Shaped.{with_shapes, has_few_pgs}
 use Rattle.lp_spec_laid.specs.Laws.{IsReady, AreExact, layout_in}
 use Rattle.lp_spec_laid.proofs.Named.{labels, port_inputs_are}
 use Rattle.lp_spec_laid.proofs.Nodes.{inner_named, outer_named, outer_mapped, outer-of, names_taken, names_left, names_apart, names_behind}
-use Rattle.lp_spec_laid.proofs.Rows.{insts_are, leaves_are, shapes_are}
+use Rattle.lp_spec_laid.proofs.Rows.{insts_are, leaves_are, shapes_are, shapes_held}
 use Rattle.lp_spec_laid.proofs.Counted.{inner_length, outer_length}
 use Rattle.lp_spec_laid.proofs.Fed.{all_fed}
 
@@ -164,7 +166,7 @@ module _ (texts : List (List ℕ)) (n : Netlist) (l : Library) (templates : List
   place : word (length inner) ≡ length inner
   place = word-same (length inner) inner-small
 
-  pub laid_out : IsLaidOut texts s (tables_of (laid n l templates top))
+  pub laid_out : IsLaidOut texts s (with_shapes l.cells (tables_of (laid n l templates top)))
   laid_out = record {
     top = module_view texts r.source;
     of = top;
@@ -188,5 +190,10 @@ module _ (texts : List (List ℕ)) (n : Netlist) (l : Library) (templates : List
         ∙ outer_named texts r.source;
     count = count-is;
     sources = sources-are ∙ one-pass 0 (layout.feeds s.cells here) (length (nodes_of s));
-    shapes = shapes_are texts l.cells e.pgs;
+    shapes = shapes_are texts l.cells;
   }
+
+pub held_tables : (n : Netlist) (l : Library) (templates : List Template) (top : ℕ) → list_all has_few_pgs l.cells ≡ true → with_shapes l.cells (tables_of (laid n l templates top)) ≡ tables_of (laid n l templates top)
+held_tables n l templates top few =
+    let t = tables_of (laid n l templates top) in
+    λ i. record { instances = t.instances; leaves = t.leaves; pins = t.pins; nodes = t.nodes; edges = t.edges; shapes = shapes_held l.cells few i; inner = t.inner }

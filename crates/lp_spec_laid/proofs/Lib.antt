@@ -3,4 +3,4 @@ mod Nodes
 mod Rows
 mod Fed
 mod Counted
-mod Laid
+pub mod Laid

@@ -1,10 +1,10 @@
 -- Instances, cell instances and shapes are those of the layout, where numbers fit.
-use Rattle.std.proofs.Common.{◌≡◌, ℕ, ◌+◌, true, List, [], ◌∷◌, length, Option, Some, None, refl, ap, arith}
+use Rattle.std.proofs.Common.{◌≡◌, ℕ, ◌+◌, true, List, [], ◌∷◌, length, Option, Some, None, refl, sym, ap, arith}
 use Rattle.std.specs.Prelude.{map, slice_get, option_map, is_some}
 use Rattle.std.specs.List.{list_all}
 use Rattle.std.proofs.lemmas.Bool.{ltb-true}
 use Rattle.lp_spec_design.specs.Reads.{one, other}
-use Rattle.lp_spec_laid.specs.Laws.{has_few_pgs}
+use Rattle.lp_spec_laid.specs.Shaped.{exact_shape, has_few_pgs}
 use Rattle.std.proofs.lemmas.List.{length-map}
 use Rattle.lp_model.specs.declared.graph.Inst.{Inst}
 use Rattle.lp_model.specs.declared.library.Cell.{Cell}
@@ -61,8 +61,16 @@ stated : (texts : List (List ℕ)) (o : Option StateGroup) → is_some o ≡ is_
 stated texts None = refl
 stated texts (Some x) = refl
 
-pub shapes_are : (texts : List (List ℕ)) (cells : List Cell) → list_all has_few_pgs cells ≡ true → map row_shape (map held_shape cells) ≡ map shape_of (map (cell_view texts) cells)
-shapes_are texts [] few = refl
-shapes_are texts (c ∷ cells) few =
-    let pgs : byte (length c.pgs) ≡ length (map (pg_pin_view texts) c.pgs) = omega (arith, ltb-true (length c.pgs) 256 (one (has_few_pgs c) (list_all has_few_pgs cells) few), length-map c.pgs (pg_pin_view texts)) in
-    λ i. (directions texts c.pins i, pgs i, stated texts c.state i) ∷ shapes_are texts cells (other (has_few_pgs c) (list_all has_few_pgs cells) few) i
+pub shapes_are : (texts : List (List ℕ)) (cells : List Cell) → map row_shape (map exact_shape cells) ≡ map shape_of (map (cell_view texts) cells)
+shapes_are texts [] = refl
+shapes_are texts (c ∷ cells) =
+    let pgs : length c.pgs ≡ length (map (pg_pin_view texts) c.pgs) = sym (length-map c.pgs (pg_pin_view texts)) in
+    λ i. (directions texts c.pins i, pgs i, stated texts c.state i) ∷ shapes_are texts cells i
+
+-- up to what 8 bits hold
+pub shapes_held : (cells : List Cell) → list_all has_few_pgs cells ≡ true → map exact_shape cells ≡ map held_shape cells
+shapes_held [] few = refl
+shapes_held (c ∷ cells) few =
+    let low = ltb-true (length c.pgs) 256 (one (has_few_pgs c) (list_all has_few_pgs cells) few) in
+    let pgs : length c.pgs ≡ byte (length c.pgs) = omega (arith, low) in
+    λ i. record { pins = map (λ (q : Pin). q.direction) c.pins; pgs = pgs i; state = is_some c.state } ∷ shapes_held cells (other (has_few_pgs c) (list_all has_few_pgs cells) few) i

@@ -1,8 +1,7 @@
 -- The statements of the laws of this crate (own rule).
-use Rattle.std.specs.Prelude.{◌≡◌, ◌<◌, ◌≤◌, nat_lt, ℕ, Bool, true, List, [], map, length, Some, slice_get}
+use Rattle.std.specs.Prelude.{◌≡◌, ◌<◌, ◌≤◌, ℕ, true, List, [], map, length, Some, slice_get}
 use Rattle.std.specs.List.{list_all}
 use Rattle.lp_model.specs.declared.graph.Inst.{Inst}
-use Rattle.lp_model.specs.declared.library.Cell.{Cell}
 use Rattle.lp_model.specs.declared.library.Library.{Library}
 use Rattle.lp_model.specs.declared.netlist.Module.{Module}
 use Rattle.lp_model.specs.declared.netlist.Netlist.{Netlist}
@@ -20,10 +19,7 @@ use Rattle.lp_targets.specs.Structures.{structure_of}
 use Rattle.lp_layout.specs.Held.{held_inst, held_leaf, held_pin, held_feed}
 use Rattle.lp_layout.specs.Labels.{labels_of}
 use Rattle.lp_layout.specs.Graph.{laid}
-
--- the pins of a cell are counted in 8 bits
-abbrev pub has_few_pgs : Cell → Bool
-has_few_pgs c = nat_lt (length c.pgs) 256
+use Rattle.lp_spec_laid.specs.Shaped.{has_few_pgs, with_shapes}
 
 -- templates of the modules of a netlist whose names are apart, with sizes, and its top
 pub record IsReady (texts : List (List ℕ)) (n : Netlist) (l : Library) (templates : List Template) (top : ℕ) : Type 0 where
@@ -50,10 +46,13 @@ pub record AreExact (texts : List (List ℕ)) (n : Netlist) (l : Library) (templ
   pub pins : map held_pin (pin_rows (leaf_sites_of templates top)) ≡ pin_rows (leaf_sites_of templates top)
   pub feeds : map held_feed (feeds (structure_of texts n l).cells (layout_in texts n l templates top r)) ≡ feeds (structure_of texts n l).cells (layout_in texts n l templates top r)
   pub edges : length (edge_rows (structure_of texts n l).cells (layout_in texts n l templates top r)) ≤ 4294967296
-  pub pgs : list_all has_few_pgs l.cells ≡ true
 
--- what is laid out are the tables of the layout
+-- what is laid out are the tables of the layout, with the shapes of cells as they are
 abbrev pub LaidIsLaidOut : Type 0
 LaidIsLaidOut = (texts : List (List ℕ)) (n : Netlist) (l : Library) (templates : List Template) (top : ℕ) (r : IsReady texts n l templates top)
     → AreExact texts n l templates top r
-    → IsLaidOut texts (structure_of texts n l) (tables_of (laid n l templates top))
+    → IsLaidOut texts (structure_of texts n l) (with_shapes l.cells (tables_of (laid n l templates top)))
+
+-- the shapes that are laid out are as they are, where no cell has more power and ground pins than 8 bits count
+abbrev pub ShapesAreHeld : Type 0
+ShapesAreHeld = (n : Netlist) (l : Library) (templates : List Template) (top : ℕ) → list_all has_few_pgs l.cells ≡ true → with_shapes l.cells (tables_of (laid n l templates top)) ≡ tables_of (laid n l templates top)

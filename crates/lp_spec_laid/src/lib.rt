@@ -3,4 +3,4 @@
 
 mod laws;
 
-pub use laws::laid_is_laid_out;
+pub use laws::{laid_is_laid_out, shapes_are_held};
