@@ -1,0 +1,6 @@
+mod Limits
+mod Fit
+mod Single
+mod Few
+mod Held
+pub mod Exact
