@@ -28,7 +28,7 @@ use Rattle.lp_domains.proofs.Joints.{nothing, in-index, inner-at, inner-low, nod
 
 -- ---- lists
 
-in-filter : {A : Type 0} (p : A → Bool) (a : A) (xs : List A) → IsIn a xs → p a ≡ true → IsIn a (filter p xs)
+pub in-filter : {A : Type 0} (p : A → Bool) (a : A) (xs : List A) → IsIn a xs → p a ≡ true → IsIn a (filter p xs)
 in-filter p a [] h e = absurd h
 in-filter p a (x ∷ xs) (inl is) e = subst (λ b. IsIn a (if b then x ∷ filter p xs else filter p xs)) (sym (ap p (sym is) ∙ e)) (inl is)
 in-filter p a (x ∷ xs) (inr h) e = by (p x) (in-filter p a xs h e)
@@ -49,7 +49,7 @@ first-there p a (x ∷ xs) (inr h) e = by (p x) (first-there p a xs h e)
 -- ---- boundary bits
 
 module _ (s : Structure) (i : Intent) where
-  listed-path : (p : Path) (o : Option ModuleView) (b : BoundaryBit) → IsIn b (bits_list p o) → b.path ≡ p
+  pub listed-path : (p : Path) (o : Option ModuleView) (b : BoundaryBit) → IsIn b (bits_list p o) → b.path ≡ p
   listed-path p None b h = absurd h
   listed-path p (Some m) b h =
       let x = of-flat (λ (x : PortView). map (λ k. record { path = p; port = x; index = k }) (indices x.range)) b m.ports h in
@@ -57,7 +57,7 @@ module _ (s : Structure) (i : Intent) where
       ap (λ (c : BoundaryBit). c.path) k.2
 
   -- a boundary bit is one of a boundary instance
-  bit-path : (b : BoundaryBit) → IsIn b (boundary s i) → is_boundary i b.path ≡ true
+  pub bit-path : (b : BoundaryBit) → IsIn b (boundary s i) → is_boundary i b.path ≡ true
   bit-path b h =
       let p = of-flat (bits_of s) b (filter (is_boundary i) (module_instances s)) h in
       let path = listed-path p.0 (module_at s p.0) b (subst (λ xs. IsIn b xs) (bits-are s p.0 (module_at s p.0) refl) p.2) in

@@ -53,12 +53,12 @@ in-index x [] h = absurd h
 in-index x (y ∷ ys) (inl is) = (0, ap (λ z. Some z) (sym is))
 in-index x (y ∷ ys) (inr h) = let found = in-index x ys h in (suc found.0, found.1)
 
-of-map-get : {A B : Type 0} (f : A → B) (xs : List A) (k : ℕ) (b : B) → slice_get (map f xs) k ≡ Some b → (a : A) × (slice_get xs k ≡ Some a) × (f a ≡ b)
+pub of-map-get : {A B : Type 0} (f : A → B) (xs : List A) (k : ℕ) (b : B) → slice_get (map f xs) k ≡ Some b → (a : A) × (slice_get xs k ≡ Some a) × (f a ≡ b)
 of-map-get f [] k b e = absurd cc
 of-map-get f (x ∷ xs) zero b e = let is : f x ≡ b = cc in (x, refl, is)
 of-map-get f (x ∷ xs) (suc k) b e = of-map-get f xs k b e
 
-take-get : {A : Type 0} (n : ℕ) (xs : List A) (k : ℕ) (a : A) → slice_get (take n xs) k ≡ Some a → slice_get xs k ≡ Some a
+pub take-get : {A : Type 0} (n : ℕ) (xs : List A) (k : ℕ) (a : A) → slice_get (take n xs) k ≡ Some a → slice_get xs k ≡ Some a
 take-get zero xs k a e = absurd cc
 take-get (suc n) [] k a e = absurd cc
 take-get (suc n) (x ∷ xs) zero a e = e
@@ -217,7 +217,7 @@ module _ (texts : List (List ℕ)) (s : Structure) (t : Tables) (e : Elaborates 
   pub node-here : (k : ℕ) → k < length (inner_nodes s) → get_or (inner_nodes s) k (Fixed false) ≡ node_at (keys_of s) k
   node-here k low = sym (get_or_append_left (inner_nodes s) (outer_in (module_at s [])) (Fixed false) k low)
 
-  node-row : (k : ℕ) (n : Name) (j : Option ℕ) (p : Path) → node_at (keys_of s) k ≡ Inner n j p → (row : NodeRow) × (slice_get t.nodes k ≡ Some row) × (get_or (module_instances s) row.inst.0 [] ≡ p)
+  pub node-row : (k : ℕ) (n : Name) (j : Option ℕ) (p : Path) → node_at (keys_of s) k ≡ Inner n j p → (row : NodeRow) × (slice_get t.nodes k ≡ Some row) × (get_or (module_instances s) row.inst.0 [] ≡ p)
   node-row k n j p h =
       let low = inner-low k n j p h in
       let there : slice_get (inner_nodes s) k ≡ Some (Inner n j p) = slice_get-get_or (inner_nodes s) k (Fixed false) low ∙ ap (λ z. Some z) (node-here k low ∙ h) in

@@ -1,9 +1,9 @@
 mod Noted
-mod Viewed
+pub mod Viewed
 mod Faults
-mod Meetings
+pub mod Meetings
 mod Ends
-mod Ordered
-mod Joints
-mod Flagged
+pub mod Ordered
+pub mod Joints
+pub mod Flagged
 mod Unread

@@ -64,19 +64,19 @@ module _ (texts : List (List ℕ)) where
 
 -- ---- lists
 
-abbrev nowhere : Inst
+abbrev pub nowhere : Inst
 nowhere = record { name = record { 0 = 0 }; «module» = 0; parent = None; start = 0 }
 
-numbered-at : {A B : Type 0} (f : ℕ × A → B) (n : ℕ) (xs : List A) (k : ℕ) (x : A) (d : B) → slice_get xs k ≡ Some x → get_or (map f (numbered n xs)) k d ≡ f (n + k, x)
+pub numbered-at : {A B : Type 0} (f : ℕ × A → B) (n : ℕ) (xs : List A) (k : ℕ) (x : A) (d : B) → slice_get xs k ≡ Some x → get_or (map f (numbered n xs)) k d ≡ f (n + k, x)
 numbered-at f n [] k x d e = absurd cc
 numbered-at f n (y ∷ ys) zero x d e = let here : y ≡ x = cc in let same : n ≡ n + zero = omega arith in (λ r. f (same r, here r))
 numbered-at f n (y ∷ ys) (suc k) x d e = let same : n + 1 + k ≡ n + suc k = omega arith in numbered-at f (n + 1) ys k x d e ∙ ap (λ m. f (m, x)) same
 
-length-numbered : {A : Type 0} (n : ℕ) (xs : List A) → length (numbered n xs) ≡ length xs
+pub length-numbered : {A : Type 0} (n : ℕ) (xs : List A) → length (numbered n xs) ≡ length xs
 length-numbered n [] = refl
 length-numbered n (x ∷ xs) = ap suc (length-numbered (n + 1) xs)
 
-behind-at : (n : ℕ) (xs : List Inst) (k : ℕ) (x : Inst) → slice_get xs k ≡ Some x → list_all (λ (z : ℕ × Inst). is_behind z.0 z.1.parent) (numbered n xs) ≡ true → is_behind (n + k) x.parent ≡ true
+pub behind-at : (n : ℕ) (xs : List Inst) (k : ℕ) (x : Inst) → slice_get xs k ≡ Some x → list_all (λ (z : ℕ × Inst). is_behind z.0 z.1.parent) (numbered n xs) ≡ true → is_behind (n + k) x.parent ≡ true
 behind-at n [] k x e h = absurd cc
 behind-at n (y ∷ ys) zero x e h =
     let here : y ≡ x = cc in
@@ -89,7 +89,7 @@ behind-at n (y ∷ ys) (suc k) x e h =
 -- ---- instances
 
 module _ (texts : List (List ℕ)) (s : Structure) (t : Tables) (e : Elaborates texts s t) (i : Intent) (domains : List ℕ) (are : map (λ d. Some d) domains ≡ map (domain_of i) (module_instances s)) where
-  count : length (module_instances s) ≡ length t.instances
+  pub count : length (module_instances s) ≡ length t.instances
   count =
       sym (length-map (module_instances s) (module_at s))
       ∙ ap length (sym e.modules)
@@ -98,7 +98,7 @@ module _ (texts : List (List ℕ)) (s : Structure) (t : Tables) (e : Elaborates 
   many : length domains ≡ length t.instances
   many = sym (length-map domains (λ d. Some d)) ∙ ap length are ∙ length-map (module_instances s) (domain_of i) ∙ count
 
-  path-here : (k : ℕ) (x : Inst) → slice_get t.instances k ≡ Some x → path_at (keys_of s) k ≡ path_in texts (module_instances s) x.name.0 x.parent
+  pub path-here : (k : ℕ) (x : Inst) → slice_get t.instances k ≡ Some x → path_at (keys_of s) k ≡ path_in texts (module_instances s) x.name.0 x.parent
   path-here k x h =
       let front : k ≡ 0 + k = omega arith in
       ap (λ ps. get_or ps k []) (sym e.instances)
@@ -106,13 +106,13 @@ module _ (texts : List (List ℕ)) (s : Structure) (t : Tables) (e : Elaborates 
       ∙ paths-at texts [] t.instances e.represents.closed.instances k x h
       ∙ ap (λ ps. path_in texts ps x.name.0 x.parent) e.instances
 
-  domain-here : (k : ℕ) → k < length t.instances → Some (get_or domains k 0) ≡ domain_of i (path_at (keys_of s) k)
+  pub domain-here : (k : ℕ) → k < length t.instances → Some (get_or domains k 0) ≡ domain_of i (path_at (keys_of s) k)
   domain-here k low = same-at (λ d. Some d) (domain_of i) domains (module_instances s) k 0 [] are (omega (arith, low, many))
 
   abbrev differs : Option ℕ → Option ℕ → Bool
   differs a b = not (same_domain a b)
 
-  boundary-here : (k : ℕ) (x : Inst) → slice_get t.instances k ≡ Some x → is_other domains (get_or domains k 0) x.parent ≡ is_boundary i (path_at (keys_of s) k)
+  pub boundary-here : (k : ℕ) (x : Inst) → slice_get t.instances k ≡ Some x → is_other domains (get_or domains k 0) x.parent ≡ is_boundary i (path_at (keys_of s) k)
   boundary-here k x h = by x.parent refl
     where
       low : k < length t.instances
