@@ -1,0 +1,4 @@
+pub mod Entries
+pub mod Placed
+pub mod Numbers
+mod Placing
