@@ -1,0 +1,6 @@
+mod Winning
+mod Lists
+mod Reached
+mod Levels
+mod Ranked
+mod Joined

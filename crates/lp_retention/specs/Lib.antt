@@ -1,0 +1,4 @@
+pub mod Marks
+pub mod Best
+pub mod Ranks
+pub mod Claims
