@@ -14,7 +14,7 @@ use Rattle.lp_model.specs.declared.graph.Source.TheVariants.{Nothing, Env, Leaf 
 use Rattle.lp_model.specs.declared.ids.EdgeId.{EdgeId}
 use Rattle.lp_spec_edits.specs.Net.{Net, source_at, edge_at, pin_at, drives, before, from_node, through, some_node, is_met}
 use Rattle.lp_spec_edits.specs.Edits.{driven, pinned, with_node, with_edge, node_of, edge_of, connect, joined_by}
-use Rattle.lp_spec_edits.specs.Sound.{IsEdge, AreWires, HasEnds, IsSound, IsEdited, no_entry, no_pin, is_pin, IsOpen, CanConnect}
+use Rattle.lp_spec_edits.specs.Sound.{IsEdge, AreWires, HasEnds, IsSound, IsEdited, no_entry, no_pin, is_pin, IsOpen}
 use Rattle.lp_spec_edits.proofs.Wires.{put, put_pin, put-at, put-other, same-or, grown, joined-input, joined-output, joined-edge, open-pin, same-from}
 use Rattle.lp_spec_edits.proofs.Ends.{met, ends-fewer, ends-joined}
 use Rattle.lp_spec_edits.proofs.Entries.{source-driven, count-driven, source-with, source-past, edge-with, edge-past, pin-pinned, rows-pinned, one-more}
@@ -76,7 +76,7 @@ after-open {f} {g} {p} {n} {m} {r} one two = record {
 module _ (n : Net) (h : IsSound n) where
   -- ---- connect
 
-  module _ (l q k : ℕ) (can : CanConnect n l q k) where
+  module _ (l q k : ℕ) (leaf : l < length n.leaves) (there : q < length (get_or n.rows l [])) (node : k < length n.nodes) (free : pin_at n l q ≡ Unconnected) (idle : drives n l q ≡ true → source_at n k ≡ Nothing) where
     abbrev y : PinNet
     y = PinNode (record { 0 = k })
 
@@ -84,10 +84,10 @@ module _ (n : Net) (h : IsSound n) where
     z = OfLeaf q (record { 0 = l })
 
     row-there : l < length n.rows
-    row-there = let low = can.leaf in omega (arith, low, h.rows)
+    row-there = omega (arith, leaf, h.rows)
 
     pin-is : pin_at (pinned l q y n) ≡ put_pin l q y (pin_at n)
-    pin-is = pin-pinned n l q y row-there can.pin
+    pin-is = pin-pinned n l q y row-there there
 
     pin-keeps : (m r : ℕ) → is_pin l q m r ≡ false → pin_at (pinned l q y n) m r ≡ pin_at n m r
     pin-keeps m r no_ = (λ i. pin-is i m r) ∙ ap (λ b. cond b y (pin_at n m r)) no_
@@ -101,7 +101,7 @@ module _ (n : Net) (h : IsSound n) where
         by : (b : Bool) → drives n l q ≡ b → IsEdited (λ j. j == k) no_entry (is_pin l q) n (cond (drives n l q) (driven k z (pinned l q y n)) (pinned l q y n))
         by false e = subst (λ b. IsEdited (λ j. j == k) no_entry (is_pin l q) n (cond b (driven k z (pinned l q y n)) (pinned l q y n))) (sym e) (record {
           sound = record {
-            wires = wires-by refl refl pin-is refl (joined-input (source_at n) (edge_at n) (pin_at n) (drives n) (length n.nodes) h.wires l q k can.free e can.node);
+            wires = wires-by refl refl pin-is refl (joined-input (source_at n) (edge_at n) (pin_at n) (drives n) (length n.nodes) h.wires l q k free e node);
             ends = h.ends;
             leaves = h.leaves;
             instances = h.instances;
@@ -113,11 +113,11 @@ module _ (n : Net) (h : IsSound n) where
           leaves = omega arith;
         })
         by true e =
-            let source-is : source_at (driven k z (pinned l q y n)) ≡ put k z (source_at n) = source-driven (pinned l q y n) k z can.node in
+            let source-is : source_at (driven k z (pinned l q y n)) ≡ put k z (source_at n) = source-driven (pinned l q y n) k z node in
             let count-is : length (driven k z (pinned l q y n)).nodes ≡ length n.nodes = count-driven (pinned l q y n) k z in
             subst (λ b. IsEdited (λ j. j == k) no_entry (is_pin l q) n (cond b (driven k z (pinned l q y n)) (pinned l q y n))) (sym e) (record {
               sound = record {
-                wires = wires-by source-is refl pin-is count-is (joined-output (source_at n) (edge_at n) (pin_at n) (drives n) (length n.nodes) h.wires l q k can.free e can.node (can.source e));
+                wires = wires-by source-is refl pin-is count-is (joined-output (source_at n) (edge_at n) (pin_at n) (drives n) (length n.nodes) h.wires l q k free e node (idle e));
                 ends = back-by source-is refl (ends-fewer (before n) h.ends (λ j. through (edge_at n) (put k z (source_at n) j)) (λ j i is. elim (same-or j k) [
                   | inl same ↦ absurd (none-some i (sym (ap (through (edge_at n)) (put-at k z (source_at n) j same)) ∙ is))
                   | inr ne ↦ sym (ap (through (edge_at n)) (put-other k z (source_at n) j ne)) ∙ is

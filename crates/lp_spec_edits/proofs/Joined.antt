@@ -20,7 +20,7 @@ use Rattle.lp_model.specs.declared.plan.AddedKind.{AddedKind}
 use Rattle.lp_spec_design.specs.Reads.{one, other, both}
 use Rattle.lp_spec_edits.specs.Net.{Net, cell_pins, pin_count, source_at, edge_at, pin_at, drives, before, from_node, through, some_node, outputs_of}
 use Rattle.lp_spec_edits.specs.Edits.{with_node, with_port, node_of, next_number, add_cell, add_wire, add_top_port, assign, punch_in, punch_out}
-use Rattle.lp_spec_edits.specs.Sound.{IsEdge, AreWires, IsSound, IsEdited, no_entry, no_pin, IsOpen, CanAddCell, CanAssign, CanPunch}
+use Rattle.lp_spec_edits.specs.Sound.{IsEdge, AreWires, IsSound, IsEdited, no_entry, no_pin, IsOpen, CanAssign, CanPunch}
 use Rattle.lp_spec_edits.proofs.Wires.{put, put-at, put-other, same-or, other-number, grown, same-some}
 use Rattle.lp_spec_edits.proofs.Ends.{met, ends-fewer}
 use Rattle.lp_spec_edits.proofs.Entries.{source-with, source-past, more-at, more-other, one-more}
@@ -171,6 +171,9 @@ module _ (n : Net) (h : IsSound n) where
           | inl e ↦ absurd (env-edge a (sym (put-at last Env (source_at n) k e) ∙ is))
           | inr ne ↦ w.by_edge k a (sym (put-other last Env (source_at n) k ne) ∙ is)
         ];
+        leads = λ a u is.
+            let low = (h.wires.edges a u is).leads in
+            put-other last Env (source_at n) u.to.0 (λ e. omega (arith, e, low)) ∙ w.leads a u is;
         outputs = λ l q k yes_ is.
             let low = h.wires.pins l q k is in
             put-other last Env (source_at n) k (λ e. omega (arith, e, low)) ∙ w.outputs l q k yes_ is;
@@ -184,7 +187,7 @@ module _ (n : Net) (h : IsSound n) where
 
   -- ---- a cell instance
 
-  module _ (i c : ℕ) (kind : AddedKind) (can : CanAddCell n i c) where
+  module _ (i c : ℕ) (kind : AddedKind) (there : i < length n.instances) where
     abbrev size : ℕ
     size = pin_count (cell_pins n.cells c)
 
@@ -229,6 +232,7 @@ module _ (n : Net) (h : IsSound n) where
             wires = record {
               by_pin = λ k l q is. pin-with l q ∙ h.wires.by_pin k l q is;
               by_edge = h.wires.by_edge;
+              leads = h.wires.leads;
               outputs = λ l q k yes_ is.
                   let old = sym (pin-with l q) ∙ is in
                   h.wires.outputs l q k (sym (drives-with l q (pin-low l q k old)) ∙ yes_) old;
@@ -237,7 +241,7 @@ module _ (n : Net) (h : IsSound n) where
               edges = h.wires.edges;
             };
             ends = h.ends;
-            leaves = all-more (λ (y : Leaf). nat_lt y.inst.0 (length n.instances)) n.leaves x h.leaves (lt-ltb i (length n.instances) can.instance);
+            leaves = all-more (λ (y : Leaf). nat_lt y.inst.0 (length n.instances)) n.leaves x h.leaves (lt-ltb i (length n.instances) there);
             instances = h.instances;
             rows = let rows_ = one-more row n.rows in omega (arith, rows_, more, h.rows);
           };

@@ -5,5 +5,6 @@ pub mod Ends
 pub mod Entries
 pub mod Gaps
 pub mod Joined
+pub mod Opened
 pub mod Splits
 pub mod Wires

@@ -1,5 +1,5 @@
 -- Each gap in an edge leaves a sound netlist.
-use Rattle.std.proofs.Common.{◌≡◌, ℕ, suc, Bool, true, false, cond, ◌||◌, ◌==◌, length, Option, Some, inl, inr, refl, sym, ap, ◌∙◌, subst, arith}
+use Rattle.std.proofs.Common.{◌≡◌, ◌<◌, ℕ, suc, Bool, true, false, cond, ◌||◌, ◌==◌, length, Option, Some, inl, inr, refl, sym, ap, ◌∙◌, subst, arith}
 use Rattle.std.proofs.lemmas.Bool.{true≢false}
 use Rattle.lp_model.specs.declared.graph.Edge.{Edge as EdgeRow}
 use Rattle.lp_model.specs.declared.graph.EdgeFrom.TheVariants.{Node as FromNode, Const as FromConst}
@@ -9,7 +9,7 @@ use Rattle.lp_model.specs.declared.graph.Source.TheVariants.{Nothing, Edge as Of
 use Rattle.lp_model.specs.declared.graph.WireKind.TheVariants.{Chain, SwitchOutput}
 use Rattle.lp_spec_edits.specs.Net.{Net, source_at, edge_at, pin_at, drives, before, through}
 use Rattle.lp_spec_edits.specs.Edits.{driven, with_edge, node_of, edge_of, named, name_at, number_at, next_number, names_passed, open_node, lead_over, led_from, head_at, gap_inst, split_behind, split_from, lead}
-use Rattle.lp_spec_edits.specs.Sound.{IsEdge, IsSound, IsEdited, no_entry, no_pin, IsOpen, is_driven, is_its_edge, is_its_pin, CanSplitBehind}
+use Rattle.lp_spec_edits.specs.Sound.{IsEdge, IsSound, IsEdited, no_entry, no_pin, IsOpen, is_driven, is_its_edge, is_its_pin}
 use Rattle.lp_spec_edits.proofs.Wires.{put, put-at, put-other, same-or, joined-edge}
 use Rattle.lp_spec_edits.proofs.Ends.{ends-fewer}
 use Rattle.lp_spec_edits.proofs.Entries.{source-driven, count-driven, source-named, count-named, length-changed, source-past, edge-with, edge-past, one-more}
@@ -138,12 +138,12 @@ module _ (n : Net) (h : IsSound n) where
 
   -- ---- gaps
 
-  pub split_behind_edited : (e : ℕ) (inside : Bool) → CanSplitBehind n e
+  pub split_behind_edited : (e : ℕ) (inside : Bool) → head_at n e < length n.nodes → is_driven (source_at n (head_at n e)) ≡ true
       → IsEdited (λ j. (j == head_at n e) || (j == length n.nodes)) (is_its_edge (source_at n (head_at n e))) (is_its_pin (source_at n (head_at n e))) n (split_behind n e inside)
-  split_behind_edited e inside can =
+  split_behind_edited e inside head driven_ =
       let k = head_at n e in
       let i = gap_inst n e inside in
-      let over = over-edited (wide i) (wide-edited i).sound k (length n.nodes) (let low = can.head in omega (arith, low, size-wide i)) (wide-open i) (λ same. let low = can.head in omega (arith, low, same)) (unread i) (ap is_driven (source-wide i k) ∙ can.driven) in
+      let over = over-edited (wide i) (wide-edited i).sound k (length n.nodes) (omega (arith, head, size-wide i)) (wide-open i) (λ same. omega (arith, head, same)) (unread i) (ap is_driven (source-wide i k) ∙ driven_) in
       let moved = subst (λ s. IsEdited (λ j. (j == k) || (j == length n.nodes)) (is_its_edge s) (is_its_pin s) (wide i) (lead_over s (length n.nodes) (driven k Nothing (wide i)))) (source-wide i k) over in
       then-open (after-open (wide-edited i) moved) (passed-edited (lead_over (source_at n k) (length n.nodes) (driven k Nothing (wide i))) moved.sound inside i k (length n.nodes))
 

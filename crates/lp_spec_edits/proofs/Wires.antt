@@ -126,6 +126,7 @@ module _ (source : ℕ → SourceRow) (edge : ℕ → Option EdgeRow) (pin : ℕ
   grown = record {
     by_pin = w.by_pin;
     by_edge = w.by_edge;
+    leads = w.leads;
     outputs = w.outputs;
     inputs = w.inputs;
     pins = λ l q k e. let low = w.pins l q k e in omega arith;
@@ -140,6 +141,7 @@ module _ (source : ℕ → SourceRow) (edge : ℕ → Option EdgeRow) (pin : ℕ
       record {
         by_pin = λ j m r is. pin-other l q y pin m r (free-pin l q free j m r is) ∙ w.by_pin j m r is;
         by_edge = w.by_edge;
+        leads = w.leads;
         outputs = λ m r j yes_ is. elim (pin-or l q y pin m r) [
           | inl e ↦ absurd (true≢false (sym yes_ ∙ (ap (λ x. driving x r) e.0 ∙ (ap (driving l) e.1 ∙ idle))))
           | inr ne ↦ w.outputs m r j yes_ (sym (pin-other l q y pin m r ne) ∙ is)
@@ -170,6 +172,7 @@ module _ (source : ℕ → SourceRow) (edge : ℕ → Option EdgeRow) (pin : ℕ
           | inl e ↦ absurd (leaf-no-edge q l a (sym (put-at k z source j e) ∙ is))
           | inr ne ↦ w.by_edge j a (sym (put-other k z source j ne) ∙ is)
         ];
+        leads = λ a x is. let old = w.leads a x is in put-other k z source x.to.0 (λ e. no-edge a (sym none ∙ (ap source (sym e) ∙ old))) ∙ old;
         outputs = λ m r j yes_ is. elim (pin-or l q y pin m r) [
           | inl e ↦
               let same = same-node k j (sym (pin-at l q y pin m r e.0 e.1) ∙ is) in
@@ -210,6 +213,12 @@ module _ (source : ℕ → SourceRow) (edge : ℕ → Option EdgeRow) (pin : ℕ
               let old = w.by_edge j b (sym (put-other x.to.0 z source j ne) ∙ is) in
               (old.0, put-other a (Some x) edge b (λ e. some-none old.0 (sym old.1 ∙ (ap edge e ∙ fresh))) ∙ old.1, old.2)
         ];
+        leads = λ b u is. elim (same-or b a) [
+          | inl e ↦ its-lead b u e (sym (put-at a (Some x) edge b e) ∙ is)
+          | inr ne ↦
+              let old = w.leads b u (sym (put-other a (Some x) edge b ne) ∙ is) in
+              put-other x.to.0 z source u.to.0 (λ e. no-edge b (sym none ∙ (ap source (sym e) ∙ old))) ∙ old
+        ];
         outputs = λ m r j yes_ is.
             let old = w.outputs m r j yes_ is in
             put-other x.to.0 z source j (λ e. no-leaf r m (sym none ∙ (ap source (sym e) ∙ old))) ∙ old;
@@ -227,6 +236,9 @@ module _ (source : ℕ → SourceRow) (edge : ℕ → Option EdgeRow) (pin : ℕ
       some-none : (u : EdgeRow) → Some u ≡ None → ⊥
       some-none u e = cc
 
+      its-lead : (b : ℕ) (u : EdgeRow) → b ≡ a → Some x ≡ Some u → put x.to.0 (OfEdge (record { 0 = a })) source u.to.0 ≡ OfEdge (record { 0 = b })
+      its-lead b u e is = put-at x.to.0 (OfEdge (record { 0 = a })) source u.to.0 (ap (λ (o : EdgeRow). o.to.0) (sym (same-some x u is))) ∙ ap (λ c. OfEdge (record { 0 = c })) (sym e)
+
       is-it : (u : EdgeRow) → Some x ≡ Some u → IsEdge count u
       is-it u e = let same : x ≡ u = cc in subst (IsEdge count) same ok
 
@@ -243,6 +255,10 @@ module _ (source : ℕ → SourceRow) (edge : ℕ → Option EdgeRow) (pin : ℕ
               | inl e ↦ (y, put-at a (Some y) edge b e, to-same old.0 (sym old.1 ∙ (ap edge e ∙ there)) ∙ old.2)
               | inr ne ↦ (old.0, put-other a (Some y) edge b ne ∙ old.1, old.2)
             ];
+        leads = λ b u is. elim (same-or b a) [
+          | inl e ↦ ap (λ (o : EdgeRow). source o.to.0) (sym (same-some y u (sym (put-at a (Some y) edge b e) ∙ is))) ∙ (w.leads a x there ∙ ap (λ c. OfEdge (record { 0 = c })) (sym e))
+          | inr ne ↦ w.leads b u (sym (put-other a (Some y) edge b ne) ∙ is)
+        ];
         outputs = w.outputs;
         inputs = w.inputs;
         pins = w.pins;
@@ -291,6 +307,10 @@ module _ (source : ℕ → SourceRow) (edge : ℕ → Option EdgeRow) (pin : ℕ
               | inr differs ↦ w.by_edge j a (sym (put-other new z (put k Nothing source) j ne ∙ put-other k Nothing source j differs) ∙ is)
             ]
           ];
+          leads = λ a u is.
+              let old = w.leads a u is in
+              put-other new z (put k Nothing source) u.to.0 (λ e. no-edge a (sym open_ ∙ (ap source (sym e) ∙ old)))
+              ∙ (put-other k Nothing source u.to.0 (λ e. leaf-no-edge q l a (sym has ∙ (ap source (sym e) ∙ old))) ∙ old);
           outputs = λ m r j yes_ is. elim (pin-or l q y pin m r) [
             | inl e ↦
                 let same = same-node new j (sym (pin-at l q y pin m r e.0 e.1) ∙ is) in
@@ -338,6 +358,13 @@ module _ (source : ℕ → SourceRow) (edge : ℕ → Option EdgeRow) (pin : ℕ
                   let own = w.by_edge k a has in
                   (old.0, put-other a (Some y) edge b (λ e. differs (sym old.2 ∙ (same-to old.0 own.0 (sym old.1 ∙ (ap edge e ∙ own.1)) ∙ own.2))) ∙ old.1, old.2)
             ]
+          ];
+          leads = λ b u is. elim (same-or b a) [
+            | inl e ↦ put-at new z (put k Nothing source) u.to.0 (ap (λ (o : EdgeRow). o.to.0) (sym (same-some y u (sym (put-at a (Some y) edge b e) ∙ is)))) ∙ ap (λ c. OfEdge (record { 0 = c })) (sym e)
+            | inr ne ↦
+                let old = w.leads b u (sym (put-other a (Some y) edge b ne) ∙ is) in
+                put-other new z (put k Nothing source) u.to.0 (λ e. no-edge b (sym open_ ∙ (ap source (sym e) ∙ old)))
+                ∙ (put-other k Nothing source u.to.0 (λ e. ne (sym (same-edge a b (sym has ∙ (ap source (sym e) ∙ old))))) ∙ old)
           ];
           outputs = λ m r j yes_ is.
               let old = w.outputs m r j yes_ is in

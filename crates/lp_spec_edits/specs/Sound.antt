@@ -27,6 +27,7 @@ pub record IsEdge (count : ℕ) (x : EdgeRow) : Type 0 where
 pub record AreWires (source : ℕ → SourceRow) (edge : ℕ → Option EdgeRow) (pin : ℕ → ℕ → PinNet) (driving : ℕ → ℕ → Bool) (count : ℕ) : Type 0 where
   pub by_pin : (k l q : ℕ) → source k ≡ OfLeaf q (record { 0 = l }) → pin l q ≡ PinNode (record { 0 = k })
   pub by_edge : (k e : ℕ) → source k ≡ OfEdge (record { 0 = e }) → (x : EdgeRow) × (edge e ≡ Some x) × (x.to.0 ≡ k)
+  pub leads : (e : ℕ) (x : EdgeRow) → edge e ≡ Some x → source x.to.0 ≡ OfEdge (record { 0 = e })
   pub outputs : (l q k : ℕ) → driving l q ≡ true → pin l q ≡ PinNode (record { 0 = k }) → source k ≡ OfLeaf q (record { 0 = l })
   pub inputs : (k l q : ℕ) → source k ≡ OfLeaf q (record { 0 = l }) → driving l q ≡ true
   pub pins : (l q k : ℕ) → pin l q ≡ PinNode (record { 0 = k }) → k < count
