@@ -1,9 +1,9 @@
 -- An elaborated netlist to which nothing was done.
 use Rattle.std.proofs.Common.{◌≡◌, ◌<◌, ℕ, zero, suc, Bool, true, false, List, [], ◌∷◌, ◌++◌, map, length, take, drop, get_or, Option, Some, None, refl, sym, ap, ◌∙◌, arith}
-use Rattle.std.specs.Prelude.{nat_lt, slice_get, option_and_then}
+use Rattle.std.specs.Prelude.{nat_lt, is_some, ◌&&◌, ◌+◌, slice_get, option_and_then}
 use Rattle.std.specs.List.{list_all}
 use Rattle.std.proofs.lemmas.Bool.{ltb-true, lt-ltb}
-use Rattle.std.proofs.lemmas.List.{length-map, take_all}
+use Rattle.std.proofs.lemmas.List.{length-map}
 use Rattle.std.proofs.lemmas.Option.{slice_get_within, get_or_from_slice_get, slice_get-get_or}
 use Rattle.lp_model.specs.LibraryView.{CellView, PinView, PgPinView}
 use Rattle.lp_model.specs.declared.graph.Edge.{Edge as EdgeRow}
@@ -16,23 +16,25 @@ use Rattle.lp_model.specs.declared.graph.PinNet.TheVariants.{Unconnected, Const 
 use Rattle.lp_model.specs.declared.graph.Source.{Source as SourceRow}
 use Rattle.lp_model.specs.declared.graph.Source.TheVariants.{Nothing, Env, Leaf as OfLeaf, Edge as OfEdge}
 use Rattle.lp_spec_design.specs.Keys.{Name, Node, Fixed, Way, Source, CellPin, SwitchedPin, Environment, From}
-use Rattle.lp_spec_design.specs.Netlists.{cell_at, module_at}
+use Rattle.lp_spec_design.specs.Netlists.{Structure, cell_at, module_at}
 use Rattle.lp_spec_design.specs.Instances.{Placed, cell_instances, module_instances}
 use Rattle.lp_spec_design.specs.Nodes.{nodes_of}
 use Rattle.lp_spec_design.specs.Graph.{source_of}
 use Rattle.lp_spec_bridge.specs.Tables.{Tables, has_node, has_source, source_row, edge_from}
-use Rattle.lp_spec_bridge.specs.Keyed.{Keyed, keys_of, node_at, way_at, leaf_at}
+use Rattle.lp_spec_bridge.specs.Keyed.{is_net_bit, Keyed, keys_of, node_at, way_at, leaf_at}
 use Rattle.lp_spec_bridge.specs.Edges.{Edge, edges_of}
 use Rattle.lp_spec_bridge.specs.Represents.{Represents, from_key, source_key, outputs_in, cell_of, row_size, row_of, pin_key, joined_at, nodes_at_pins}
 use Rattle.lp_spec_bridge.specs.Elaborates.{Elaborates, Ends, row_ends, edge_ends, placed_key}
+use Rattle.lp_spec_bridge.proofs.Apart.{apart-at, list-at}
 use Rattle.lp_spec_bridge.proofs.Trails.{source-at, source-in, map-map}
 use Rattle.lp_spec_realises.specs.Projects.{Project}
 use Rattle.lp_spec_hub.specs.Spots.{Spot, OfNode, AsSource, FromSpot, nothing_done}
 use Rattle.lp_spec_hub.specs.Drives.{drive, drive_by}
-use Rattle.lp_spec_edits.specs.Net.{CellPins, cell_pins, pin_count, row_at, Net, net_of, source_at, pin_at}
+use Rattle.lp_spec_edits.specs.Net.{Signal, CellPins, no_pins, cell_pins, pin_count, row_at, Net, net_of, source_at, edge_at, pin_at}
 use Rattle.lp_spec_edits.specs.Sound.{IsSound}
 use Rattle.lp_spec_design.specs.Reads.{one, other}
-use Rattle.lp_spec_held.specs.Held.{Cell, OfSource, OfOperator, OfSwitch, Spots, spots_of, spot_at, key_at, from_spot, pin_spot, view_at, driven_by, row_drive, cell_of_key, path_of_key, name_of_pin, Holds}
+use Rattle.lp_spec_design.specs.Graph.{is_output_pin}
+use Rattle.lp_spec_held.specs.Held.{Driving, driving, driving_of, AreCells, is_there, is_done, IsEdgeHeld, Cell, OfSource, OfOperator, OfSwitch, Spots, spots_of, spot_at, key_at, from_spot, pin_spot, view_at, driven_by, row_drive, cell_of_key, path_of_key, name_of_pin, Holds}
 
 get-map : {A B : Type 0} (f : A → B) (xs : List A) (k : ℕ) (d : A) → get_or (map f xs) k (f d) ≡ f (get_or xs k d)
 get-map f [] k d = refl
@@ -50,7 +52,7 @@ none-some x e = cc
 same-some : {A : Type 0} (x y : A) → Some x ≡ Some y → x ≡ y
 same-some x y e = let same : x ≡ y = cc in same
 
-map-at : {A B : Type 0} (f : A → B) (xs : List A) (k : ℕ) (x : A) (d : B) → slice_get xs k ≡ Some x → get_or (map f xs) k d ≡ f x
+pub map-at : {A B : Type 0} (f : A → B) (xs : List A) (k : ℕ) (x : A) (d : B) → slice_get xs k ≡ Some x → get_or (map f xs) k d ≡ f x
 map-at f [] zero x d e = absurd (none-some x e)
 map-at f [] (suc k) x d e = absurd (none-some x e)
 map-at f (y ∷ xs) zero x d e = ap f (same-some y x e)
@@ -144,7 +146,7 @@ module _ (p : Project) (from : Way → Node) (cells : List CellPins) (t : Tables
 
   -- ---- the other parts
 
-  open-slice : (k : ℕ) (x : Spot) → slice_get (map (λ k. OfNode k) (nodes_of p.structure)) k ≡ Some x → x ≡ OfNode (node_at ks k)
+  pub open-slice : (k : ℕ) (x : Spot) → slice_get (map (λ k. OfNode k) (nodes_of p.structure)) k ≡ Some x → x ≡ OfNode (node_at ks k)
   open-slice k x e = sym (get_or_from_slice_get (map (λ k. OfNode k) (nodes_of p.structure)) k x (OfNode (Fixed false)) e) ∙ spot-is k
 
   pub drives-all : (k : ℕ) (x : Spot) → slice_get sp.nodes k ≡ Some x → row_drive p.structure sp n x (source_at n k) ≡ drive p nothing_done from x
@@ -160,9 +162,6 @@ module _ (p : Project) (from : Way → Node) (cells : List CellPins) (t : Tables
   pub leaves-begun : length n.leaves ≡ length sp.leaves
   leaves-begun = leaf-count ∙ sym (length-map (cell_instances p.structure) (λ a. OfSource a))
 
-  pub own-begun : take (length t.nodes) sp.nodes ≡ map (λ k. OfNode k) (nodes_of p.structure)
-  own-begun = take_all (length t.nodes) sp.nodes (let size = nodes-begun in omega (arith, size))
-
   no-operator : (xs : List Placed) (l : ℕ) (w : Way) (k : ℕ) → slice_get (map (λ a. OfSource a) xs) l ≡ Some (OfOperator w k) → ⊥
   no-operator [] l w k e = none-some (OfOperator w k) e
   no-operator (x ∷ xs) zero w k e = let no_ : OfSource x ≡ OfOperator w k = same-some (OfSource x) (OfOperator w k) e in cc
@@ -170,7 +169,13 @@ module _ (p : Project) (from : Way → Node) (cells : List CellPins) (t : Tables
 
 -- ---- entries of two lists that two functions map to one
 
-entry-of : {A B C : Type 0} (f : A → C) (g : B → C) (xs : List A) (ys : List B) (k : ℕ) (y : B) → map f xs ≡ map g ys → slice_get ys k ≡ Some y → (x : A) × (slice_get xs k ≡ Some x) × (f x ≡ g y)
+pub heads-same : {D : Type 0} (a b : D) (us vs : List D) → a ∷ us ≡ b ∷ vs → a ≡ b
+heads-same a b us vs h = cc
+
+pub tails-same : {D : Type 0} (a b : D) (us vs : List D) → a ∷ us ≡ b ∷ vs → us ≡ vs
+tails-same a b us vs h = cc
+
+pub entry-of : {A B C : Type 0} (f : A → C) (g : B → C) (xs : List A) (ys : List B) (k : ℕ) (y : B) → map f xs ≡ map g ys → slice_get ys k ≡ Some y → (x : A) × (slice_get xs k ≡ Some x) × (f x ≡ g y)
 entry-of f g xs [] zero y same e = absurd (none-some y e)
 entry-of f g xs [] (suc k) y same e = absurd (none-some y e)
 entry-of f g [] (z ∷ ys) k y same e = absurd (nil-cons (g z) (map g ys) same)
@@ -178,13 +183,7 @@ entry-of f g [] (z ∷ ys) k y same e = absurd (nil-cons (g z) (map g ys) same)
     nil-cons : {D : Type 0} (d : D) (ds : List D) → [] ≡ d ∷ ds → ⊥
     nil-cons d ds h = cc
 entry-of f g (x ∷ xs) (z ∷ ys) zero y same e = (x, refl, heads-same (f x) (g z) (map f xs) (map g ys) same ∙ ap g (same-some z y e))
-  where
-    heads-same : {D : Type 0} (a b : D) (us vs : List D) → a ∷ us ≡ b ∷ vs → a ≡ b
-    heads-same a b us vs h = cc
 entry-of f g (x ∷ xs) (z ∷ ys) (suc k) y same e = entry-of f g xs ys k y (tails-same (f x) (g z) (map f xs) (map g ys) same) e
-  where
-    tails-same : {D : Type 0} (a b : D) (us vs : List D) → a ∷ us ≡ b ∷ vs → us ≡ vs
-    tails-same a b us vs h = cc
 
 source-entry : (xs : List Placed) (l : ℕ) (c : Cell) → slice_get (map (λ a. OfSource a) xs) l ≡ Some c → (a : Placed) × (slice_get xs l ≡ Some a) × (c ≡ OfSource a)
 source-entry [] zero c e = absurd (none-some c e)
@@ -198,7 +197,7 @@ all-entry test [] (suc k) x h e = absurd (none-some x e)
 all-entry test (y ∷ xs) zero x h e = ap test (sym (same-some y x e)) ∙ one (test y) (list_all test xs) h
 all-entry test (y ∷ xs) (suc k) x h e = all-entry test xs k x (other (test y) (list_all test xs) h) e
 
-map-front : {A B : Type 0} (f : A → B) (xs : List A) (ys : List B) (q : ℕ) (x : A) → slice_get xs q ≡ Some x → slice_get (map f xs ++ ys) q ≡ Some (f x)
+pub map-front : {A B : Type 0} (f : A → B) (xs : List A) (ys : List B) (q : ℕ) (x : A) → slice_get xs q ≡ Some x → slice_get (map f xs ++ ys) q ≡ Some (f x)
 map-front f [] ys zero x e = absurd (none-some x e)
 map-front f [] ys (suc q) x e = absurd (none-some x e)
 map-front f (z ∷ xs) ys zero x e = ap (λ y. Some (f y)) (same-some z x e)
@@ -210,8 +209,36 @@ map-found f [] (suc q) y e = absurd (none-some y e)
 map-found f (x ∷ xs) zero y e = (x, refl, same-some (f x) y e)
 map-found f (x ∷ xs) (suc q) y e = map-found f xs q y e
 
+-- ---- cells
+
+pub one-size : (x : CellPins) (v : CellView) → driving x ≡ driving_of v → pin_count x ≡ length v.pins + length v.pgs
+one-size x v e =
+    let left = length-map x.signals (λ (y : Signal). y.drives) in
+    let right = length-map v.pins is_output_pin in
+    let pgs = length-map v.pgs (λ (g : PgPinView). is_some g.switched) in
+    let firsts = ap (λ (y : Driving). length y.0) e in
+    let seconds = ap (λ (y : Driving). length y.1) e in
+    omega (arith, left, right, pgs, firsts, seconds)
+
+length-pins : (s : Structure) (cells : List CellPins) → AreCells s cells → (c : ℕ) → pin_count (cell_pins cells c) ≡ row_size (slice_get s.cells c)
+length-pins s cells same c = by cells s.cells c same
+  where
+    by : (xs : List CellPins) (vs : List CellView) (k : ℕ) → map driving xs ≡ map driving_of vs → pin_count (get_or xs k no_pins) ≡ row_size (slice_get vs k)
+    by [] [] zero e = refl
+    by [] [] (suc k) e = refl
+    by [] (v ∷ vs) k e = absurd (nil-cons (driving_of v) (map driving_of vs) e)
+      where
+        nil-cons : (d : Driving) (ds : List Driving) → [] ≡ d ∷ ds → ⊥
+        nil-cons d ds h = cc
+    by (x ∷ xs) [] k e = absurd (cons-nil (driving x) (map driving xs) e)
+      where
+        cons-nil : (d : Driving) (ds : List Driving) → d ∷ ds ≡ [] → ⊥
+        cons-nil d ds h = cc
+    by (x ∷ xs) (v ∷ vs) zero e = one-size x v (heads-same (driving x) (driving_of v) (map driving xs) (map driving_of vs) e)
+    by (x ∷ xs) (v ∷ vs) (suc k) e = by xs vs k (tails-same (driving x) (driving_of v) (map driving xs) (map driving_of vs) e)
+
 module _ (texts : List (List ℕ)) (p : Project) (from : Way → Node) (cells : List CellPins) (t : Tables) (elaborated : Elaborates texts p.structure t)
-    (sizes : (c : ℕ) → pin_count (cell_pins cells c) ≡ row_size (slice_get p.structure.cells c)) (sound : IsSound (net_of cells t)) where
+    (library : AreCells p.structure cells) (sound : IsSound (net_of cells t)) where
   abbrev rep : Represents p.structure (keys_of p.structure) t
   rep = elaborated.represents
 
@@ -227,18 +254,24 @@ module _ (texts : List (List ℕ)) (p : Project) (from : Way → Node) (cells : 
   spot-of : (k : ℕ) → spot_at spots k ≡ OfNode (node_at keyed k)
   spot-of k = spot-is p from cells t rep k
 
-  heads-begun : map (λ k. spot_at spots k) net.heads ≡ map (λ (y : Edge). OfNode y.to) (edges_of p.structure)
-  heads-begun =
-      map-map (λ k. spot_at spots k) (λ (x : EdgeRow). x.to.0) t.edges
-      ∙ ((λ i. map (λ (x : EdgeRow). spot-of x.to.0 i) t.edges)
-      ∙ (sym (map-map (λ (z : Ends). OfNode z.1) (row_ends keyed) t.edges)
-      ∙ (ap (map (λ (z : Ends). OfNode z.1)) elaborated.edges
-      ∙ map-map (λ (z : Ends). OfNode z.1) edge_ends (edges_of p.structure))))
+  node-there : (k : ℕ) → k < length t.nodes → slice_get spots.nodes k ≡ Some (OfNode (node_at keyed k))
+  node-there k low = slice_get-get_or spots.nodes k (OfNode (Fixed false)) (let size = nodes-begun p from cells t rep in omega (arith, low, size)) ∙ ap (λ x. Some x) (spot-of k)
 
-  edge-entry : (e : ℕ) (y : Edge) (r : EdgeRow) → slice_get (edges_of p.structure) e ≡ Some y → slice_get t.edges e ≡ Some r → row_ends keyed r ≡ edge_ends y
-  edge-entry e y r there row =
-      let found = entry-of (row_ends keyed) edge_ends t.edges (edges_of p.structure) e y elaborated.edges there in
-      ap (row_ends keyed) (same-some r found.0 (sym row ∙ found.1)) ∙ found.2
+  lead-low : (e : ℕ) (r : EdgeRow) → slice_get t.edges e ≡ Some r → r.to.0 < length t.nodes
+  lead-low e r row = ltb-true r.to.0 (length t.nodes) (other (has_node t r.from) (nat_lt r.to.0 (length t.nodes)) (all-entry (λ (x : EdgeRow). has_node t x.from && nat_lt x.to.0 (length t.nodes)) t.edges e r rep.closed.edges row))
+
+  heads-begun : map (slice_get spots.nodes) net.heads ≡ map (λ (y : Edge). Some (OfNode y.to)) (edges_of p.structure)
+  heads-begun =
+      map-map (slice_get spots.nodes) (λ (x : EdgeRow). x.to.0) t.edges
+      ∙ (map-by t.edges (λ e r row. node-there r.to.0 (lead-low e r row))
+      ∙ (sym (map-map (λ (z : Ends). Some (OfNode z.1)) (row_ends keyed) t.edges)
+      ∙ (ap (map (λ (z : Ends). Some (OfNode z.1))) elaborated.edges
+      ∙ map-map (λ (z : Ends). Some (OfNode z.1)) edge_ends (edges_of p.structure))))
+    where
+      map-by : (xs : List EdgeRow) → ((e : ℕ) (r : EdgeRow) → slice_get xs e ≡ Some r → slice_get spots.nodes r.to.0 ≡ Some (OfNode (node_at keyed r.to.0)))
+          → map (λ (x : EdgeRow). slice_get spots.nodes x.to.0) xs ≡ map (λ (x : EdgeRow). Some (OfNode (node_at keyed x.to.0))) xs
+      map-by [] each = refl
+      map-by (x ∷ xs) each = (λ i. each zero x refl i ∷ map-by xs (λ e r row. each (suc e) r row) i)
 
   leaf-entry : (l : ℕ) (a : Placed) → slice_get (cell_instances p.structure) l ≡ Some a → (x : Leaf) × (slice_get t.leaves l ≡ Some x) × (slice_get p.structure.cells x.cell.0 ≡ cell_at p.structure a.path a.instance)
   leaf-entry l a e = entry-of (λ (x : Leaf). slice_get p.structure.cells x.cell.0) (λ (b : Placed). cell_at p.structure b.path b.instance) t.leaves (cell_instances p.structure) l a rep.cells e
@@ -298,7 +331,7 @@ module _ (texts : List (List ℕ)) (p : Project) (from : Way → Node) (cells : 
       cell-is = sym view-is ∙ (cells-begun l (OfSource x) e)
 
       row-is : get_or (map (row_at cells t.pins) t.leaves) l [] ≡ row_of p.structure t found.0
-      row-is = map-at (row_at cells t.pins) t.leaves l found.0 [] found.1 ∙ ap (λ m. take m (drop found.0.start t.pins)) (sizes found.0.cell.0)
+      row-is = map-at (row_at cells t.pins) t.leaves l found.0 [] found.1 ∙ ap (λ m. take m (drop found.0.start t.pins)) (length-pins p.structure cells library found.0.cell.0)
 
       with-name : (c : CellView) (o : Option PinView) → slice_get c.pins q ≡ o → option_and_then (λ (v : PinView). Some v.name) o ≡ Some name → (v : PinView) × (slice_get c.pins q ≡ Some v) × (v.name ≡ name)
       with-name c None g h = absurd (none-some name h)
@@ -314,18 +347,60 @@ module _ (texts : List (List ℕ)) (p : Project) (from : Way → Node) (cells : 
           ap (λ (row : List PinNet). pin_spot spots (get_or row q Unconnected)) row-is
           ∙ (ap (pin_spot spots) (get_or_from_slice_get (row_of p.structure t found.0) q pinned.0 Unconnected pinned.1) ∙ pin-is pinned.0 y pinned.2)
 
+  apart-begun : (j k : ℕ) (x : Spot) → slice_get spots.nodes j ≡ Some x → slice_get spots.nodes k ≡ Some x → j ≡ k
+  apart-begun j k x one_ two =
+      let low = slice_get_within spots.nodes j x one_ in
+      let high = slice_get_within spots.nodes k x two in
+      let size = length-map (nodes_of p.structure) (λ k. OfNode k) in
+      apart-at (nodes_of p.structure) j k (Fixed false) (Fixed false) elaborated.apart.nodes (omega (arith, low, size)) (omega (arith, high, size))
+      (ap node_in (sym (open-slice p from cells t rep j x one_) ∙ open-slice p from cells t rep k x two))
+    where
+      node_in : Spot → Node
+      node_in (OfNode y) = y
+      node_in _ = Fixed false
+
+  there-begun : (k : ℕ) (x : Spot) → slice_get spots.nodes k ≡ Some x → is_there p nothing_done from x ≡ true
+  there-begun k x e =
+      let low = slice_get_within spots.nodes k x e in
+      let size = length-map (nodes_of p.structure) (λ k. OfNode k) in
+      ap (is_there p nothing_done from) (open-slice p from cells t rep k x e) ∙ list-at is_net_bit (nodes_of p.structure) k (Fixed false) elaborated.apart.net_bits (omega (arith, low, size))
+
+  done-begun : (l : ℕ) (c : Cell) → slice_get spots.leaves l ≡ Some c → is_done nothing_done c ≡ true
+  done-begun l c e = ap (is_done nothing_done) (source-entry (cell_instances p.structure) l c e).2
+
+  edges-begun : (e : ℕ) (y : Edge) → slice_get (edges_of p.structure) e ≡ Some y → IsEdgeHeld nothing_done spots y (edge_at net e)
+  edges-begun e y there =
+      let found = entry-of (row_ends keyed) edge_ends t.edges (edges_of p.structure) e y elaborated.edges there in
+      record {
+        row = found.0;
+        there = found.1;
+        starts = from-is p from cells t rep found.0.from ∙ ap (λ (z : Ends). OfNode z.0) found.2;
+        leads = node-there found.0.to.0 (lead-low e found.0 found.1) ∙ ap (λ (z : Ends). Some (OfNode z.1)) found.2;
+        kind = ap (λ (z : Ends). z.2) found.2;
+      }
+
   pub begun : Holds p from nothing_done spots net
   begun = record {
     sound = sound;
+    library = library;
+    instances = instance-count;
     nodes = nodes-begun p from cells t rep;
     leaves = leaves-begun p from cells t rep;
-    own = own-begun p from cells t rep;
+    kept = rep.count;
+    added = [];
+    own = sym (append-none spots.nodes);
+    apart = apart-begun;
+    there = there-begun;
+    done = done-begun;
     drives = drives-all p from cells t rep;
     heads = heads-begun;
-    starts = λ e y r there row. from-is p from cells t rep r.from ∙ ap (λ (z : Ends). OfNode z.0) (edge-entry e y r there row);
-    leads = λ e y r there row. spot-of r.to.0 ∙ ap (λ (z : Ends). OfNode z.1) (edge-entry e y r there row);
-    cells = cells-begun;
+    edges = edges-begun;
+    views = cells-begun;
     places = places-begun;
     reads = reads-begun;
     takes = λ l q k w o y there. absurd (no-operator p from cells t rep (cell_instances p.structure) l w k there);
   }
+    where
+      append-none : (xs : List Spot) → xs ++ [] ≡ xs
+      append-none [] = refl
+      append-none (x ∷ xs) = ap (λ r. x ∷ r) (append-none xs)

@@ -1,6 +1,6 @@
 -- What the numbers of an edited netlist stand for when some entries of the plan are done (own rule).
-use Rattle.std.specs.Prelude.{◌≡◌, ◌==◌, ℕ, suc, false, List, [], ◌∷◌, ◌++◌, map, length, take, Option, Some, None, option_and_then, if◌then◌else◌, slice_get, slice_index_or}
-use Rattle.lp_model.specs.LibraryView.{CellView, PinView}
+use Rattle.std.specs.Prelude.{◌≡◌, ◌==◌, ℕ, suc, Bool, true, false, List, [], ◌∷◌, ◌++◌, map, length, Option, Some, None, is_some, option_and_then, if◌then◌else◌, slice_get, slice_index_or}
+use Rattle.lp_model.specs.LibraryView.{CellView, PinView, PgPinView}
 use Rattle.lp_model.specs.declared.graph.Edge.{Edge as EdgeRow}
 use Rattle.lp_model.specs.declared.graph.EdgeFrom.{EdgeFrom}
 use Rattle.lp_model.specs.declared.graph.EdgeFrom.TheVariants.{Node as FromNode, Const as FromConst}
@@ -13,7 +13,9 @@ use Rattle.lp_spec_design.specs.Keys.{Name, Path, Node, Fixed, Way, Environment}
 use Rattle.lp_spec_design.specs.Netlists.{Structure}
 use Rattle.lp_spec_design.specs.Instances.{Placed, cell_instances, module_instances}
 use Rattle.lp_spec_design.specs.Nodes.{nodes_of}
-use Rattle.lp_spec_bridge.specs.Edges.{Edge, edges_of}
+use Rattle.lp_spec_design.specs.Graph.{is_output_pin}
+use Rattle.lp_spec_bridge.specs.Keyed.{is_net_bit}
+use Rattle.lp_spec_bridge.specs.Edges.{Edge, edges_of, kind_of}
 use Rattle.lp_spec_bridge.specs.Represents.{outputs_in, joined_at}
 use Rattle.lp_spec_realises.specs.Projects.{Project}
 use Rattle.lp_spec_realises.specs.Realises.{data_pin}
@@ -22,7 +24,7 @@ use Rattle.lp_spec_written.specs.Supplies.{cell_for, switch_of}
 use Rattle.lp_spec_hub.specs.Spots.{Spot, OfNode, Behind, Before, Lead, Carried, Drive, AsSource, ByOperator, BySwitch, ByPort, FromSpot, Done, on_way, is_behind, own_spot}
 use Rattle.lp_spec_hub.specs.Drives.{is_led, drive, read_by}
 use Rattle.lp_spec_hub.specs.Changes.{its_way, its_number}
-use Rattle.lp_spec_edits.specs.Net.{Net, source_at, edge_at, pin_at}
+use Rattle.lp_spec_edits.specs.Net.{Signal, CellPins, Net, source_at, edge_at, pin_at}
 use Rattle.lp_spec_edits.specs.Sound.{IsSound}
 
 -- ---- keys
@@ -108,25 +110,64 @@ path_of_key a (OfSource x) = Some x.path
 path_of_key a (OfOperator w k) = option_and_then (λ (o : Standing). Some o.path) (slice_get (on_way a.plan.operators w) k)
 path_of_key a (OfSwitch o) = option_and_then (λ (w : Switching). Some w.path) (switch_of a.plan o)
 
--- ---- the whole
-
 -- pin q of a cell bears this name
 abbrev pub name_of_pin : Option CellView → ℕ → Option Name
 name_of_pin None q = None
 name_of_pin (Some c) q = option_and_then (λ (x : PinView). Some x.name) (slice_get c.pins q)
 
--- the wires of the netlist are those of the hub, each by its number: what drives it, where each edge of the source begins and leads now,
--- and what the source's cells and the data pins of operators read
+-- which signal pins, and which power and ground pins, a cell drives itself
+abbrev pub Driving : Type 0
+Driving = List Bool × List Bool
+
+abbrev pub driving : CellPins → Driving
+driving c = (map (λ (x : Signal). x.drives) c.signals, c.pgs)
+
+abbrev pub driving_of : CellView → Driving
+driving_of c = (map is_output_pin c.pins, map (λ (g : PgPinView). is_some g.switched) c.pgs)
+
+-- the cells of the netlist are those of the library
+abbrev pub AreCells : Structure → List CellPins → Type 0
+AreCells s cells = map driving cells ≡ map driving_of s.cells
+
+-- ---- the whole
+
+-- a wire is there: a net bit of the source, or what the hub drives beside these
+abbrev pub is_there : Project → Done → (Way → Node) → Spot → Bool
+is_there p a from (OfNode k) = is_net_bit k
+is_there p a from x = is_some (drive p a from x)
+
+-- a cell instance is there: one of the source, or one that is done
+abbrev pub is_done : Done → Cell → Bool
+is_done a (OfSource x) = true
+is_done a (OfOperator w k) = is_some (slice_get (on_way a.plan.operators w) k)
+is_done a (OfSwitch o) = is_some (switch_of a.plan o)
+
+-- an edge of the source: where it begins and leads now
+pub record IsEdgeHeld (a : Done) (ks : Spots) (y : Edge) (found : Option EdgeRow) : Type 0 where
+  pub row : EdgeRow
+  pub there : found ≡ Some row
+  pub starts : from_spot ks row.from ≡ way_start a y
+  pub leads : slice_get ks.nodes row.to.0 ≡ Some (way_end a y)
+  pub kind : row.kind ≡ kind_of y
+
+-- the wires of the netlist are those of the hub, each by its number, the source's own first and none twice: what drives it,
+-- where each edge of the source begins and leads now, and what the source's cells and the data pins of operators read
 pub record Holds (p : Project) (from : Way → Node) (a : Done) (ks : Spots) (n : Net) : Type 0 where
   pub sound : IsSound n
+  pub library : AreCells p.structure n.cells
+  pub instances : length n.instances ≡ length (module_instances p.structure)
   pub nodes : length n.nodes ≡ length ks.nodes
   pub leaves : length n.leaves ≡ length ks.leaves
-  pub own : take n.kept ks.nodes ≡ map (λ k. OfNode k) (nodes_of p.structure)
+  pub kept : n.kept ≡ length (nodes_of p.structure)
+  pub added : List Spot
+  pub own : ks.nodes ≡ map (λ k. OfNode k) (nodes_of p.structure) ++ added
+  pub apart : (j k : ℕ) (x : Spot) → slice_get ks.nodes j ≡ Some x → slice_get ks.nodes k ≡ Some x → j ≡ k
+  pub there : (k : ℕ) (x : Spot) → slice_get ks.nodes k ≡ Some x → is_there p a from x ≡ true
+  pub done : (l : ℕ) (c : Cell) → slice_get ks.leaves l ≡ Some c → is_done a c ≡ true
   pub drives : (k : ℕ) (x : Spot) → slice_get ks.nodes k ≡ Some x → row_drive p.structure ks n x (source_at n k) ≡ drive p a from x
-  pub heads : map (λ k. spot_at ks k) n.heads ≡ map (λ (y : Edge). OfNode y.to) (edges_of p.structure)
-  pub starts : (e : ℕ) (y : Edge) (r : EdgeRow) → slice_get (edges_of p.structure) e ≡ Some y → edge_at n e ≡ Some r → from_spot ks r.from ≡ way_start a y
-  pub leads : (e : ℕ) (y : Edge) (r : EdgeRow) → slice_get (edges_of p.structure) e ≡ Some y → edge_at n e ≡ Some r → spot_at ks r.to.0 ≡ way_end a y
-  pub cells : (l : ℕ) (c : Cell) → slice_get ks.leaves l ≡ Some c → view_at p.structure n l ≡ cell_of_key p a c
+  pub heads : map (slice_get ks.nodes) n.heads ≡ map (λ (y : Edge). Some (OfNode y.to)) (edges_of p.structure)
+  pub edges : (e : ℕ) (y : Edge) → slice_get (edges_of p.structure) e ≡ Some y → IsEdgeHeld a ks y (edge_at n e)
+  pub views : (l : ℕ) (c : Cell) → slice_get ks.leaves l ≡ Some c → view_at p.structure n l ≡ cell_of_key p a c
   pub places :
       (l : ℕ) (c : Cell) (x : Leaf) → slice_get ks.leaves l ≡ Some c → slice_get n.leaves l ≡ Some x
       → slice_get (module_instances p.structure) x.inst.0 ≡ path_of_key a c

@@ -3,4 +3,4 @@
 
 mod laws;
 
-pub use laws::nothing_is_done_at_first;
+pub use laws::{nothing_is_done_at_first, one_more_operator_is_held};
