@@ -4,4 +4,5 @@ pub mod Walks
 pub mod Splits
 pub mod Standing
 pub mod Finding
+pub mod Cells
 pub mod Named

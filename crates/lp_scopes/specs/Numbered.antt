@@ -4,6 +4,7 @@ use Rattle.std.specs.Map.{lookup}
 use Rattle.indexmap.specs.IndexMap.{insert_entry}
 use Rattle.lp_text.specs.Texts.{text_at, place_of}
 use Rattle.lp_model.specs.declared.graph.Inst.{Inst}
+use Rattle.lp_model.specs.declared.graph.Leaf.{Leaf}
 use Rattle.lp_model.specs.declared.ids.InstId.{InstId}
 use Rattle.lp_spec_design.specs.Keys.{Name}
 
@@ -18,6 +19,9 @@ same_key a b = nat_eq a.0 b.0 && nat_eq a.1 b.1
 -- a module instance stands in its parent; the top in none
 abbrev pub inst_key : Inst → Option Key
 inst_key x = option_map (λ (q : InstId). (q.0, x.name.0)) x.parent
+
+abbrev pub leaf_key : Leaf → Option Key
+leaf_key l = Some (l.inst.0, l.name.0)
 
 -- keys with their places
 abbrev pub Entries : Type 0

@@ -1,16 +1,17 @@
 ghost use Rattle.std.specs.Prelude.{◌≡◌, ◌≤◌, length, map, IfOk};
 ghost use Rattle.lp_text.specs.Texts.{text_at};
-ghost use Rattle.lp_scopes.specs.Numbered.{inst_key, all_noted, longest_of};
+ghost use Rattle.lp_scopes.specs.Numbered.{inst_key, leaf_key, all_noted, longest_of};
 
 use crate::keys::Keys;
-use lp_model::Inst;
+use lp_model::{Inst, Leaf};
 use lp_text::{Names, NoMemory};
 use std::alloc::Global;
 
-/// Which instances stand in which instances, by name. It does not change.
+/// Which instances and cell instances stand in which instances, by name. It does not change.
 #[derive(Drop)]
 pub struct Scopes {
     pub(crate) instances: Keys,
+    pub(crate) leaves: Keys,
     /// The bytes of the longest name of an instance.
     pub(crate) longest: usize,
 }
@@ -33,6 +34,18 @@ pub(crate) fn inst_keys(alloc: Global, instances: &[Inst]) -> Result<Keys, NoMem
     let mut keys = Keys::new(alloc);
     for (place, inst) in instances.iter().enumerate() {
         keys.note(inst_key(inst), place as u32)?;
+    }
+    Ok(keys)
+}
+
+/// The cell instances by where they stand.
+pub(crate) fn leaf_keys(alloc: Global, leaves: &[Leaf]) -> Result<Keys, NoMemory>
+    requires { length leaves.now ≤ 4294967295 }
+    ensures { IfOk result (λ keys. keys ≡ all_noted (map leaf_key leaves.now)) }
+{
+    let mut keys = Keys::new(alloc);
+    for (place, leaf) in leaves.iter().enumerate() {
+        keys.note(Some((leaf.inst.0, leaf.name.0)), place as u32)?;
     }
     Ok(keys)
 }

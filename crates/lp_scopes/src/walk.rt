@@ -3,7 +3,7 @@ ghost use Rattle.lp_scopes.specs.Numbered.{walk_by, beginning_by};
 ghost use Rattle.lp_scopes.specs.Spots.{spot_view, is_end, next, last_part, instance};
 
 use crate::scopes::Scopes;
-use crate::steps::{Spot, step, stepped};
+use crate::steps::{Spot, standing, step, stepped};
 use lp_model::{Inst, InstId};
 use lp_text::Names;
 
@@ -14,6 +14,8 @@ pub(crate) enum Ends {
     Nothing,
     /// An instance.
     Instance,
+    /// An instance or a cell instance.
+    Part,
 }
 
 /// Whether the steps end here.
@@ -24,6 +26,10 @@ fn is_end(scopes: &Scopes, names: &Names, instances: &[Inst], ends: Ends, spot: 
     match ends {
         Ends::Nothing => false,
         Ends::Instance => stepped(scopes, names, instances, scope, spot.name).is_some(),
+        Ends::Part => {
+            stepped(scopes, names, instances, scope, spot.name).is_some()
+                || standing(&scopes.leaves, names, scope, spot.name).is_some()
+        }
     }
 }
 
