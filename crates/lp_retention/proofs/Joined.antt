@@ -17,6 +17,8 @@ use Rattle.lp_spec_design.specs.Instances.{Placed, cell_instances}
 use Rattle.lp_spec_design.specs.Intents.{Strategy, Intent}
 use Rattle.lp_spec_design.specs.Registers.{retains, retention_rank, retention_winner}
 use Rattle.lp_spec_bridge.specs.Keyed.{keys_of, leaf_at}
+use Rattle.lp_spec_bridge.proofs.Inputs.{map-same}
+use Rattle.lp_spec_bridge.proofs.Trails.{map-map}
 use Rattle.lp_spec_realises.specs.Projects.{Project}
 use Rattle.lp_spec_faults.specs.Strategies.{has_state}
 use Rattle.lp_spec_views.specs.Views.{strategy_view}
@@ -33,7 +35,7 @@ use Rattle.lp_retention.proofs.Ranked.{rank_by, bests-right}
 use Rattle.lp_retention.proofs.Winning.{winner-found, winner-within}
 
 -- what is no register has no strategy
-none-found : (n : ℕ) (ts : List Strategy) (f : Strategy → ℕ) → best_from (λ (v : Strategy). if false then f v else 0) n ts ≡ none_yet
+pub none-found : (n : ℕ) (ts : List Strategy) (f : Strategy → ℕ) → best_from (λ (v : Strategy). if false then f v else 0) n ts ≡ none_yet
 none-found n [] f = refl
 none-found n (t ∷ ts) f = none-found (n + 1) ts f
 
@@ -46,7 +48,7 @@ length-with g domains Retention t n bests h = length-map (numbered 0 g.leaves) (
 length-with g domains Isolation t n bests h = h
 length-with g domains Shifting t n bests h = h
 
-length-bests : (g : Graph) (domains : List ℕ) (n : ℕ) (ts : List model_strategy.Strategy) → length (bests_from g domains n ts) ≡ length g.leaves
+pub length-bests : (g : Graph) (domains : List ℕ) (n : ℕ) (ts : List model_strategy.Strategy) → length (bests_from g domains n ts) ≡ length g.leaves
 length-bests g domains n [] = length-replicate (length g.leaves) none_yet
 length-bests g domains n (t ∷ ts) = length-with g domains t.kind t n (bests_from g domains (n + 1) ts) (length-bests g domains (n + 1) ts)
 
@@ -72,20 +74,25 @@ module _ (p : Project) (i : model.Intent) (g : Graph) (domains : List ℕ) (give
       ∙ sym (winner-found (λ (v : Strategy). retains p.intent a.path a.instance v) (retention_rank a.path a.instance) (rank-some a.path a.instance) 0 p.intent.strategies)
   found-right false a = ap (λ b. kept (winning b)) (none-found 0 p.intent.strategies (rank_by p i g domains given a))
 
+  -- what is found at a cell instance by paths
+  abbrev pub best_by : Placed → Best
+  best_by a = best_from (λ (v : Strategy). if has_state (cell_at p.structure a.path a.instance) then rank_by p i g domains given a v else 0) 0 p.intent.strategies
+
+  pub bests-are : bests_from g domains 0 i.strategies ≡ map best_by (cell_instances p.structure)
+  bests-are =
+      let many = length-bests g domains 0 i.strategies in
+      let right = length-map (cell_instances p.structure) best_by in
+      let cells = count p i g domains given in
+      same-entries (bests_from g domains 0 i.strategies) (map best_by (cell_instances p.structure)) none_yet (omega (arith, many, right, cells))
+      (λ k small.
+      let low : k < length g.leaves = omega (arith, small, many) in
+      bests-right p i g domains given k (get_or g.leaves k some_row) (slice_get-get_or g.leaves k some_row low) low 0 i.strategies given.ranges.elements
+      ∙ ap (best_from (λ (v : Strategy). if has_state (cell_at p.structure (leaf_at (keys_of p.structure) k).path (leaf_at (keys_of p.structure) k).instance) then rank_by p i g domains given (leaf_at (keys_of p.structure) k) v else 0) 0) strategies
+      ∙ sym (get_or-map best_by (cell_instances p.structure) k (record { path = []; instance = [] }) none_yet (omega (arith, low, cells))))
+
   pub winners-right : (slots : List StrategySlot) → map number_in slots ≡ map won (bests_from g domains 0 i.strategies) → AreWinners p slots
   winners-right slots is =
-      let left = length-map (bests_from g domains 0 i.strategies) won in
-      let many = length-bests g domains 0 i.strategies in
-      let right = length-map (cell_instances p.structure) (winner_of p) in
-      let cells = count p i g domains given in
       is
-      ∙ same-entries (map won (bests_from g domains 0 i.strategies)) (map (winner_of p) (cell_instances p.structure)) None (omega (arith, left, many, right, cells))
-      (λ k small.
-      let low : k < length g.leaves = omega (arith, small, left, many) in
-      let there = slice_get-get_or g.leaves k some_row low in
-      let a = leaf_at (keys_of p.structure) k in
-      get_or-map won (bests_from g domains 0 i.strategies) k none_yet None (omega (arith, low, many))
-      ∙ ap won (bests-right p i g domains given k (get_or g.leaves k some_row) there low 0 i.strategies given.ranges.elements)
-      ∙ ap (found (has_state (cell_at p.structure (leaf_at (keys_of p.structure) k).path (leaf_at (keys_of p.structure) k).instance)) (leaf_at (keys_of p.structure) k)) strategies
-      ∙ found-right (has_state (cell_at p.structure (leaf_at (keys_of p.structure) k).path (leaf_at (keys_of p.structure) k).instance)) (leaf_at (keys_of p.structure) k)
-      ∙ sym (get_or-map (winner_of p) (cell_instances p.structure) k (record { path = []; instance = [] }) None (omega (arith, low, cells))))
+      ∙ ap (map won) bests-are
+      ∙ map-map won best_by (cell_instances p.structure)
+      ∙ map-same (λ (a : Placed). won (best_by a)) (winner_of p) (cell_instances p.structure) (λ a. found-right (has_state (cell_at p.structure a.path a.instance)) a)

@@ -4,3 +4,4 @@ mod Reached
 mod Levels
 mod Ranked
 mod Joined
+mod Ties

@@ -1,15 +1,16 @@
 -- What is found from the last strategy to the first is the winner.
-use Rattle.std.proofs.Common.{◌≡◌, ◌⊎◌, ◌<◌, ◌≤◌, ◌+◌, ◌==◌, ℕ, Bool, true, false, ◌||◌, List, [], ◌∷◌, length, Option, Some, None, inl, inr, refl, sym, ap, ◌∙◌, subst, arith}
-use Rattle.std.specs.Prelude.{nat_lt, filter, option_and_then, if◌then◌else◌}
-use Rattle.std.specs.List.{list_all}
+use Rattle.std.proofs.Common.{◌≡◌, ◌⊎◌, ◌<◌, ◌≤◌, ◌+◌, ◌==◌, ℕ, Bool, true, false, ◌&&◌, ◌||◌, List, [], ◌∷◌, length, Option, Some, None, inl, inr, refl, sym, ap, ◌∙◌, subst, arith}
+use Rattle.std.specs.Prelude.{nat_lt, not, filter, option_and_then, if◌then◌else◌}
+use Rattle.std.specs.List.{list_any, list_all}
 use Rattle.std.proofs.lemmas.Bool.{true≢false, ltb-true, lt-ltb, eqb-true, eq-eqb, cases_lt}
 use Rattle.lp_spec_design.specs.Netlists.{first}
 use Rattle.lp_spec_design.specs.Graph.{numbered}
 use Rattle.lp_spec_design.specs.Intents.{Strategy}
-use Rattle.lp_spec_design.specs.Winners.{IsIn, beats_all, winner_among}
+use Rattle.lp_spec_design.specs.Winners.{IsIn, beats_all, winner_among, is_tied}
 use Rattle.lp_spec_design.specs.Reads.{one, other, both}
-use Rattle.lp_spec_design.proofs.Members.{of-filter}
+use Rattle.lp_spec_design.proofs.Members.{of-filter, of-any, any-in}
 use Rattle.lp_spec_design.proofs.Sources.{first_in}
+use Rattle.lp_domains.proofs.Flagged.{in-filter}
 use Rattle.lp_retention.specs.declared.best.Best.{Best}
 use Rattle.lp_retention.specs.Best.{none_yet, offer, best_from, settled, winning}
 
@@ -123,6 +124,7 @@ module _ (ranked : Strategy → ℕ) where
     is : b.first ≡ Some x.0
     next : b.second ≡ Some z.0
     above : (y : ℕ × Strategy) → IsIn y all → ranked y.1 ≤ ranked x.1
+    lead : (y : ℕ × Strategy) → IsIn y all → ranked y.1 ≡ ranked x.1 → (y ≡ x) ⊎ (z.0 ≤ y.0)
 
   abbrev Bests : List (ℕ × Strategy) → Best → Type 0
   Bests all b = ((all ≡ []) × (b ≡ none_yet)) ⊎ (OneBest all b ⊎ TwoBest all b)
@@ -161,6 +163,7 @@ module _ (ranked : Strategy → ℕ) where
             is = refl;
             next = o.is;
             above = λ y m. elim m [ inl is ↦ let eq = ap (λ (q : ℕ × Strategy). ranked q.1) is in omega (arith, eq) | inr more ↦ elim (o.above y more) [ inl is ↦ let eq = ap (λ (q : ℕ × Strategy). ranked q.1) is in omega (arith, eq, same, r) | inr less ↦ omega (arith, less, same, r) ] ];
+            lead = λ y m e. elim m [ inl is ↦ inl is | inr more ↦ elim (o.above y more) [ inl is ↦ let eq = ap (λ (q : ℕ × Strategy). q.0) is in inr (omega (arith, eq)) | inr less ↦ absurd (omega (arith, less, e, same, r)) ] ];
           })))
     ]
   ]
@@ -184,6 +187,7 @@ module _ (ranked : Strategy → ℕ) where
             is = o.is;
             next = o.next;
             above = λ y m. elim m [ inl is ↦ let same = ap (λ (q : ℕ × Strategy). ranked q.1) is in let r = o.rank in omega (arith, low, same, r) | inr more ↦ o.above y more ];
+            lead = λ y m e. elim m [ inl is ↦ let same = ap (λ (q : ℕ × Strategy). ranked q.1) is in let r = o.rank in absurd (omega (arith, low, same, r, e)) | inr more ↦ o.lead y more e ];
           })))
       | inr most ↦
           let same : b.rank ≡ ranked t = omega (arith, high, most) in
@@ -200,6 +204,10 @@ module _ (ranked : Strategy → ℕ) where
             is = refl;
             next = o.is;
             above = λ y m. elim m [ inl is ↦ let eq = ap (λ (q : ℕ × Strategy). ranked q.1) is in omega (arith, eq) | inr more ↦ let less = o.above y more in omega (arith, less, same, r) ];
+            lead = λ y m e. elim m [
+              | inl is ↦ inl is
+              | inr more ↦ elim (o.lead y more (e ∙ sym same ∙ r)) [ inl is ↦ let eq = ap (λ (q : ℕ × Strategy). q.0) is in inr (omega (arith, eq)) | inr after ↦ let d = o.apart in inr (omega (arith, after, d)) ]
+            ];
           })))
     ]
   ]
@@ -266,13 +274,53 @@ module _ (ranked : Strategy → ℕ) where
   wins all b same (inr (inl o)) = one-wins all b same o
   wins all b same (inr (inr o)) = none-wins all b o
 
+-- ---- ties
+
+abbrev pub first_of_list : (ℕ × Strategy → Bool) → List (ℕ × Strategy) → Option (ℕ × Strategy)
+first_of_list p xs = first p xs
+
+-- the first of a numbered list that passes is the one of the least number
+first-least : (p : ℕ × Strategy → Bool) (n : ℕ) (xs : List Strategy) (x : ℕ × Strategy) → IsIn x (numbered n xs) → p x ≡ true → ((y : ℕ × Strategy) → IsIn y (numbered n xs) → p y ≡ true → x.0 ≤ y.0) → first p (numbered n xs) ≡ Some x
+first-least p n [] x m h least = absurd m
+first-least p n (t ∷ ts) x m h least = by (p (n, t)) refl m (λ more. first-least p (n + 1) ts x more h (λ y k e. least y (inr k) e))
+  where
+    by : (b : Bool) → p (n, t) ≡ b → IsIn x ((n, t) ∷ numbered (n + 1) ts) → (IsIn x (numbered (n + 1) ts) → first p (numbered (n + 1) ts) ≡ Some x) → (if b then Some (n, t) else first p (numbered (n + 1) ts)) ≡ Some x
+    by true e m rest =
+        let low = least (n, t) (inl refl) e in
+        let high = (numbers-in n x (t ∷ ts) m).0 in
+        ap (λ (z : ℕ × Strategy). Some z) (same-number n (n, t) x (t ∷ ts) (inl refl) m (omega (arith, low, high)))
+    by false e (inl is) rest = absurd (true≢false (sym h ∙ ap p is ∙ e))
+    by false e (inr more) rest = rest more
+
+first-filter : (p q : ℕ × Strategy → Bool) (xs : List (ℕ × Strategy)) → first p (filter q xs) ≡ first (λ x. q x && p x) xs
+first-filter p q [] = refl
+first-filter p q (x ∷ xs) = by (q x) (first-filter p q xs)
+  where
+    by : (b : Bool) → first p (filter q xs) ≡ first (λ y. q y && p y) xs → first p (if b then x ∷ filter q xs else filter q xs) ≡ (if (b && p x) then Some x else first (λ y. q y && p y) xs)
+    by true more = ap (λ r. if p x then Some x else r) more
+    by false more = more
+
+not-true : (b : Bool) → not b ≡ true → b ≡ false
+not-true true h = absurd (true≢false (sym h))
+not-true false h = refl
+
+differs-not : (a b : ℕ) → not (a == b) ≡ true → a ≡ b → ⊥
+differs-not a b h e = true≢false (sym (eq-eqb a b e) ∙ not-true (a == b) h)
+
+differs-is : (a b : ℕ) → (a ≡ b → ⊥) → not (a == b) ≡ true
+differs-is a b h = by (a == b) refl
+  where
+    by : (c : Bool) → (a == b) ≡ c → not c ≡ true
+    by true e = absurd (h (eqb-true a b e))
+    by false e = refl
+
 -- ---- of a numbered list
 
 module _ (applies : Strategy → Bool) (ranked : Strategy → ℕ) (positive : (v : Strategy) → 0 < ranked v) where
-  abbrev some_rank : Strategy → ℕ
+  abbrev pub some_rank : Strategy → ℕ
   some_rank a = if applies a then ranked a else 0
 
-  abbrev those : ℕ → List Strategy → List (ℕ × Strategy)
+  abbrev pub those : ℕ → List Strategy → List (ℕ × Strategy)
   those n xs = filter (λ z. applies z.1) (numbered n xs)
 
   bests : (n : ℕ) (xs : List Strategy) → Bests ranked (those n xs) (best_from some_rank n xs)
@@ -307,3 +355,102 @@ module _ (applies : Strategy → Bool) (ranked : Strategy → ℕ) (positive : (
           let found = first_in (beats_all ranked (those n xs)) (those n xs) t e in
           let low = (numbers-in n t xs (of-filter (λ q. applies q.1) t (numbered n xs) found.0).0).1 in
           omega (arith, low, same)
+
+  -- ---- ties
+
+  abbrev pub tied_test : ℕ → List Strategy → ℕ × Strategy → Bool
+  tied_test n xs t = applies t.1 && is_tied ranked (those n xs) t
+
+  abbrev pub equals : ℕ × Strategy → ℕ × Strategy → Bool
+  equals x y = not (y.0 == x.0) && (ranked y.1 == ranked x.1)
+
+  -- two of the greatest rank, the first and the one after it
+  pub record IsTie (n : ℕ) (xs : List Strategy) (b : Best) : Type 0 where
+    pub x : ℕ × Strategy
+    pub z : ℕ × Strategy
+    pub is : b.first ≡ Some x.0
+    pub next : b.second ≡ Some z.0
+    pub tied : first_of_list (tied_test n xs) (numbered n xs) ≡ Some x
+    pub partner : first_of_list (equals x) (those n xs) ≡ Some z
+
+  abbrev pub IsUntied : ℕ → List Strategy → Best → Type 0
+  IsUntied n xs b = (b.second ≡ None) × (first (tied_test n xs) (numbered n xs) ≡ None)
+
+  is-those : (n : ℕ) (xs : List Strategy) (t : ℕ × Strategy) → IsIn t (numbered n xs) → applies t.1 ≡ true → IsIn t (those n xs)
+  is-those n xs t m h = in-filter (λ z. applies z.1) t (numbered n xs) m h
+
+  -- a tied strategy has the greatest rank
+  tied-most : (n : ℕ) (xs : List Strategy) (t x : ℕ × Strategy) → tied_test n xs t ≡ true → IsIn x (those n xs) → ranked x.1 ≤ ranked t.1
+  tied-most n xs t x h m =
+      let all = one (list_all (λ y. not (nat_lt (ranked t.1) (ranked y.1))) (those n xs)) (list_any (equals t) (those n xs)) (other (applies t.1) (is_tied ranked (those n xs) t) h) in
+      not-less (ranked t.1) (ranked x.1) (not-true (nat_lt (ranked t.1) (ranked x.1)) (one-of (λ (y : ℕ × Strategy). not (nat_lt (ranked t.1) (ranked y.1))) (those n xs) x all m))
+    where
+      not-less : (a b : ℕ) → nat_lt a b ≡ false → b ≤ a
+      not-less a b e = elim (cases_lt a b) [ inl less ↦ absurd (true≢false (sym (lt-ltb a b less) ∙ e)) | inr least ↦ least ]
+
+  -- and there is another one of its rank
+  tied-other : (n : ℕ) (xs : List Strategy) (t : ℕ × Strategy) → tied_test n xs t ≡ true → (y : ℕ × Strategy) × IsIn y (those n xs) × (equals t y ≡ true)
+  tied-other n xs t h = of-any (equals t) (those n xs) (other (list_all (λ y. not (nat_lt (ranked t.1) (ranked y.1))) (those n xs)) (list_any (equals t) (those n xs)) (other (applies t.1) (is_tied ranked (those n xs) t) h))
+
+  never-tied : (n : ℕ) (xs : List Strategy) (b : Best) → OneBest ranked (those n xs) b → (t : ℕ × Strategy) → IsIn t (numbered n xs) → tied_test n xs t ≡ true → ⊥
+  never-tied n xs b o t m h =
+      let here = is-those n xs t m (one (applies t.1) (is_tied ranked (those n xs) t) h) in
+      let most = tied-most n xs t o.x h o.there in
+      let y = tied-other n xs t h in
+      let differs = differs-not y.0.0 t.0 (one (not (y.0.0 == t.0)) (ranked y.0.1 == ranked t.1) y.2) in
+      let same = eqb-true (ranked y.0.1) (ranked t.1) (other (not (y.0.0 == t.0)) (ranked y.0.1 == ranked t.1) y.2) in
+      elim (o.above t here) [
+        | inl is ↦ elim (o.above y.0 y.1) [ inl too ↦ differs (ap (λ (q : ℕ × Strategy). q.0) too ∙ sym (ap (λ (q : ℕ × Strategy). q.0) is)) | inr less ↦ omega (arith, less, most, same) ]
+        | inr less ↦ omega (arith, less, most)
+      ]
+
+  two-tied : (n : ℕ) (xs : List Strategy) (b : Best) → TwoBest ranked (those n xs) b → IsTie n xs b
+  two-tied n xs b o = record {
+    x = o.x;
+    z = o.z;
+    is = o.is;
+    next = o.next;
+    tied = first-least (tied_test n xs) n xs o.x (of-filter (λ q. applies q.1) o.x (numbered n xs) o.there).0 passes least;
+    partner = first-filter (equals o.x) (λ q. applies q.1) (numbered n xs) ∙ first-least (λ y. applies y.1 && equals o.x y) n xs o.z (of-filter (λ q. applies q.1) o.z (numbered n xs) o.more).0 equal later;
+  }
+    where
+      z-equals : equals o.x o.z ≡ true
+      z-equals = let d = o.apart in both (not (o.z.0 == o.x.0)) (ranked o.z.1 == ranked o.x.1) (differs-is o.z.0 o.x.0 (λ e. omega (arith, d, e))) (eq-eqb (ranked o.z.1) (ranked o.x.1) o.equal)
+
+      passes : tied_test n xs o.x ≡ true
+      passes =
+          both (applies o.x.1) (is_tied ranked (those n xs) o.x) (of-filter (λ q. applies q.1) o.x (numbered n xs) o.there).1
+          (both (list_all (λ y. not (nat_lt (ranked o.x.1) (ranked y.1))) (those n xs)) (list_any (equals o.x) (those n xs))
+          (all-in (λ (y : ℕ × Strategy). not (nat_lt (ranked o.x.1) (ranked y.1))) (those n xs) (λ y m. ap not (not-below (ranked o.x.1) (ranked y.1) (o.above y m))))
+          (any-in (equals o.x) o.z (those n xs) o.more z-equals))
+
+      least : (y : ℕ × Strategy) → IsIn y (numbered n xs) → tied_test n xs y ≡ true → o.x.0 ≤ y.0
+      least y m h =
+          let here = is-those n xs y m (one (applies y.1) (is_tied ranked (those n xs) y) h) in
+          let most = tied-most n xs y o.x h o.there in
+          let top = o.above y here in
+          elim (o.lead y here (omega (arith, most, top))) [ inl is ↦ let eq = ap (λ (q : ℕ × Strategy). q.0) is in omega (arith, eq) | inr after ↦ let d = o.apart in omega (arith, after, d) ]
+
+      equal : (applies o.z.1 && equals o.x o.z) ≡ true
+      equal = both (applies o.z.1) (equals o.x o.z) (of-filter (λ q. applies q.1) o.z (numbered n xs) o.more).1 z-equals
+
+      later : (y : ℕ × Strategy) → IsIn y (numbered n xs) → (applies y.1 && equals o.x y) ≡ true → o.z.0 ≤ y.0
+      later y m h =
+          let here = is-those n xs y m (one (applies y.1) (equals o.x y) h) in
+          let e = other (applies y.1) (equals o.x y) h in
+          elim (o.lead y here (eqb-true (ranked y.1) (ranked o.x.1) (other (not (y.0 == o.x.0)) (ranked y.1 == ranked o.x.1) e))) [
+            | inl is ↦ absurd (differs-not y.0 o.x.0 (one (not (y.0 == o.x.0)) (ranked y.1 == ranked o.x.1) e) (ap (λ (q : ℕ × Strategy). q.0) is))
+            | inr after ↦ after
+          ]
+
+  pub ties-found : (n : ℕ) (xs : List Strategy) → IsUntied n xs (best_from some_rank n xs) ⊎ IsTie n xs (best_from some_rank n xs)
+  ties-found n xs = by (best_from some_rank n xs) (bests n xs)
+    where
+      by : (b : Best) → Bests ranked (those n xs) b → IsUntied n xs b ⊎ IsTie n xs b
+      by b (inl none) =
+          inl (
+            ap (λ (c : Best). c.second) none.1,
+            first-none (tied_test n xs) (numbered n xs) (λ y m h. subst (λ ys. IsIn y ys) none.0 (is-those n xs y m (one (applies y.1) (is_tied ranked (those n xs) y) h))),
+          )
+      by b (inr (inl o)) = inl (o.alone, first-none (tied_test n xs) (numbered n xs) (never-tied n xs b o))
+      by b (inr (inr o)) = inr (two-tied n xs b o)

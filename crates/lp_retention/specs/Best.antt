@@ -1,5 +1,9 @@
 -- The strategies of the greatest rank, from the last strategy to the first (own rule).
 use Rattle.std.specs.Prelude.{ℕ, ◌+◌, ◌==◌, nat_lt, List, [], ◌∷◌, Option, Some, None, if◌then◌else◌}
+use Rattle.lp_model.specs.declared.fault.refs.Site.TheVariants.{Register}
+use Rattle.lp_model.specs.declared.fault.strategy.StrategyFault.{StrategyFault}
+use Rattle.lp_model.specs.declared.fault.strategy.StrategyFault.TheVariants.{Tied}
+use Rattle.lp_strategy.specs.Elements.{or_later}
 use Rattle.lp_retention.specs.declared.best.Best.{Best}
 
 -- no strategy has a rank
@@ -26,6 +30,19 @@ settled (Some k) first = None
 
 abbrev pub winning : Best → Option ℕ
 winning b = settled b.second b.first
+
+-- two of the greatest rank at a register, by its number
+abbrev pub tie_by : ℕ → Option ℕ → Option ℕ → Option StrategyFault
+tie_by k (Some x) (Some z) = Some (Tied (Register (record { 0 = k })) (record { 0 = x }) (record { 0 = z }))
+tie_by k _ _ = None
+
+abbrev pub tie_of : ℕ → Best → Option StrategyFault
+tie_of k b = tie_by k b.first b.second
+
+-- the first of all registers, which are numbered from some number on
+abbrev pub tie_from : ℕ → List Best → Option StrategyFault
+tie_from k [] = None
+tie_from k (b ∷ bs) = or_later (tie_of k b) (tie_from (k + 1) bs)
 
 -- a number that 4 bytes beside none have room for
 abbrev pub kept : Option ℕ → Option ℕ

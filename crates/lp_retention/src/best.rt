@@ -1,5 +1,7 @@
-ghost use Rattle.std.specs.Prelude.{◌≡◌};
-ghost use Rattle.lp_retention.specs.Best.{none_yet, offer, winning};
+ghost use Rattle.std.specs.Prelude.{◌≡◌, ◌≤◌, length};
+ghost use Rattle.lp_retention.specs.Best.{none_yet, offer, winning, tie_by, tie_of, tie_from};
+
+use lp_model::{LeafId, Site, StrategyFault, StrategyId};
 
 /// The strategies of the greatest rank that were met so far. It takes 20 bytes.
 #[derive(Clone, Copy)]
@@ -55,4 +57,31 @@ pub(crate) fn winning(best: Best) -> Option<u32>
         Some(_) => None,
         None => best.first,
     }
+}
+
+/// Two strategies of the greatest rank at a register.
+fn tie_of(register: u32, best: Best) -> Option<StrategyFault>
+    ensures { result ≡ tie_of register best }
+{
+    match (best.first, best.second) {
+        (Some(first), Some(second)) => Some(StrategyFault::Tied {
+            site: Site::Register(LeafId(register)),
+            first: StrategyId(first),
+            second: StrategyId(second),
+        }),
+        _ => None,
+    }
+}
+
+/// The first register at which two strategies share the greatest rank.
+pub(crate) fn first_tie(bests: &[Best]) -> Option<StrategyFault>
+    requires { length bests.now ≤ 4294967295 }
+    ensures { result ≡ tie_from 0 bests.now }
+{
+    for (place, best) in bests.iter().enumerate() {
+        if let Some(fault) = tie_of(place as u32, *best) {
+            return Some(fault);
+        }
+    }
+    None
 }

@@ -1,11 +1,11 @@
-ghost use Rattle.std.specs.Prelude.{◌≡◌, ◌≤◌, length, map, IfOk};
+ghost use Rattle.std.specs.Prelude.{◌≡◌, ◌≤◌, length, map, IfOk, IfErr};
 ghost use Rattle.lp_strategy.specs.Claims.{OnProject};
 ghost use Rattle.lp_retention.specs.Best.{kept, won};
-ghost use Rattle.lp_retention.specs.Claims.{number_in, AreWinners};
+ghost use Rattle.lp_retention.specs.Claims.{number_in, HasRetention, IsRetentionFault};
 
-use crate::best::{Best, winning};
+use crate::best::{Best, first_tie, winning};
 use crate::ranks::bests;
-use lp_model::{DomainMap, Graph, Intent, StrategyId, StrategySlot};
+use lp_model::{DomainMap, Graph, Intent, Refusal, StrategyId, StrategySlot};
 use lp_text::NoMemory;
 use sqlite_items::Items;
 use std::alloc::Global;
@@ -32,25 +32,29 @@ fn slots(alloc: Global, bests: &[Best]) -> Result<Items<StrategySlot>, NoMemory>
 }
 
 /// For each cell instance the retention strategy that wins there, if it is a register and one does (own rule, after IEEE
-/// 1801-2015 set_retention). Where two strategies share the greatest rank, none wins. Takes time in proportion to the
-/// instances and cell instances for each retention strategy, and to the elements; 20 bytes a cell instance besides the
-/// answer.
+/// 1801-2015 set_retention). Takes time in proportion to the instances and cell instances for each retention strategy,
+/// and to the elements; 20 bytes a cell instance besides the answer.
 ///
 /// # Errors
 ///
-/// Only where memory is refused.
+/// Two retention strategies share the greatest rank at a register: then the first such register, with the first two of
+/// them in command order. Or memory is refused.
 pub fn retention_winners(
     alloc: Global,
     intent: &Intent,
     graph: &Graph,
     domains: &DomainMap,
-) -> Result<Items<StrategySlot>, NoMemory>
+) -> Result<Items<StrategySlot>, Refusal>
     requires strategies { length intent.now.strategies ≤ 4294967295 }
     requires leaves { length graph.now.leaves ≤ 4294967295 }
-    ensures { OnProject intent.now graph.now domains.now.domain_of (λ p. IfOk result (AreWinners p)) }
+    ensures ok { OnProject intent.now graph.now domains.now.domain_of (λ p. IfOk result (HasRetention p)) }
+    ensures err { OnProject intent.now graph.now domains.now.domain_of (λ p. IfErr result (IsRetentionFault p)) }
 {
     let strategies = intent.strategies.as_slice();
     let bests = bests(alloc, graph, domains.domain_of.as_slice(), strategies)?;
+    if let Some(fault) = first_tie(bests.as_slice()) {
+        return Err(Refusal::from(fault));
+    }
     let slots = slots(alloc, bests.as_slice())?;
     Ok(slots)
 }

@@ -1,4 +1,4 @@
 pub mod Entries
 pub mod Placed
 pub mod Numbers
-mod Placing
+pub mod Placing

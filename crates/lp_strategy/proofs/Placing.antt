@@ -32,11 +32,11 @@ use Rattle.lp_strategy.proofs.Numbers.{path-in, of-key, side-key, bit-key, leaf-
 
 -- ---- the first of lists
 
-abbrev or_else : {A : Type 0} → Option A → Option A → Option A
+abbrev pub or_else : {A : Type 0} → Option A → Option A → Option A
 or_else (Some x) later = Some x
 or_else None later = later
 
-first-append : {A : Type 0} (p : A → Bool) (xs ys : List A) → first p (xs ++ ys) ≡ or_else (first p xs) (first p ys)
+pub first-append : {A : Type 0} (p : A → Bool) (xs ys : List A) → first p (xs ++ ys) ≡ or_else (first p xs) (first p ys)
 first-append p [] ys = refl
 first-append p (x ∷ xs) ys = by (p x) (first-append p xs ys)
   where
@@ -44,7 +44,7 @@ first-append p (x ∷ xs) ys = by (p x) (first-append p xs ys)
     by true more = refl
     by false more = more
 
-first-image : {A B : Type 0} (p : B → Bool) (q ok : A → Bool) (f : A → B) → ((x : A) → ok x ≡ true → p (f x) ≡ q x) → (xs : List A) → list_all ok xs ≡ true → first p (map f xs) ≡ option_map f (first q xs)
+pub first-image : {A B : Type 0} (p : B → Bool) (q ok : A → Bool) (f : A → B) → ((x : A) → ok x ≡ true → p (f x) ≡ q x) → (xs : List A) → list_all ok xs ≡ true → first p (map f xs) ≡ option_map f (first q xs)
 first-image p q ok f agree [] h = refl
 first-image p q ok f agree (x ∷ xs) h =
     ap (λ b. if b then Some (f x) else first p (map f xs)) (agree x (one (ok x) (list_all ok xs) h))
