@@ -154,3 +154,16 @@ row-unknown = refl
 location : failed (said (codes "set_level_shifter L -domain D -location automatic")) ≡ None
 unfolding encode
 location = refl
+
+-- a name that is empty, a byte of one that is not visible, and an element that is none
+empty-name : failed (said (codes "create_supply_net {}")) ≡ Some (Syntax (at 19))
+unfolding encode
+empty-name = refl
+
+blank-name : failed (said (codes "create_supply_net N -domain {D E}")) ≡ Some (Syntax (at 29))
+unfolding encode
+blank-name = refl
+
+empty-element : failed (said (codes "create_pst T -supplies {a {} b}")) ≡ Some (Syntax (at 27))
+unfolding encode
+empty-element = refl

@@ -1,5 +1,5 @@
 -- What the words of a UPF text say as commands, or its one fault (IEEE 1801-2015, clause 6; the subset is an own rule).
-use Rattle.std.specs.Prelude.{ℕ, zero, suc, ◌==◌, Bool, true, false, not, ◌&&◌, ◌||◌, if◌then◌else◌, nat_lt, bytes_eq}
+use Rattle.std.specs.Prelude.{ℕ, zero, suc, ◌==◌, Bool, true, false, not, ◌&&◌, ◌||◌, if◌then◌else◌, nat_le, nat_lt, bytes_eq}
 use Rattle.std.specs.Prelude.{List, [], ◌∷◌, ◌++◌, length, codes, Option, Some, None, Result, Ok, Err}
 use Rattle.std.specs.List.{list_all}
 use Rattle.lp_text.specs.Micros.{micros_of}
@@ -13,7 +13,7 @@ use Rattle.lp_upf_words.specs.declared.mode.Stop.{Stop}
 use Rattle.lp_upf_words.specs.declared.mode.Stop.TheVariants as stops
 use Rattle.lp_upf_words.specs.Elements.{content_end, elements_of, words_of}
 use Rattle.lp_upf_words.specs.Words.{Outcome}
-use Rattle.lp_spec_upf.specs.Shapes.{Element, Any, Among, Voltage, Form, Closed, Rest, Needs, May, OffOr}
+use Rattle.lp_spec_upf.specs.Shapes.{Element, Any, Text, Among, Voltage, Form, Closed, Rest, Needs, May, OffOr}
 use Rattle.lp_spec_upf.specs.Shapes.{Value, Flag, Name, OneOf, Clamp, Threshold, Listed, Need, Free, Always, Unless}
 use Rattle.lp_spec_upf.specs.Shapes.{OptionRule, NameRule, NoName, MayName, OneName, NameList, shape_of, all_commands}
 
@@ -64,9 +64,21 @@ is_given (Some v) = true
 abbrev pub reads_voltage : List ℕ → Bool
 reads_voltage text = is_given (micros_of text)
 
+-- a name is not empty, and visible ASCII
+abbrev pub is_visible : ℕ → Bool
+is_visible b = nat_le 33 b && nat_le b 126
+
+abbrev pub is_name : List ℕ → Bool
+is_name [] = false
+is_name (b ∷ text) = list_all is_visible (b ∷ text)
+
+abbrev pub name_faults : WordView → List Fault
+name_faults w = if is_name w.text then [] else Syntax w.place ∷ []
+
 -- the fault of an element, if any
 abbrev pub element_faults : Element → WordView → List Fault
-element_faults Any w = []
+element_faults Any w = name_faults w
+element_faults Text w = []
 element_faults (Among words) w = if is_among words w.text then [] else Unsupported w.place w.text ∷ []
 element_faults Voltage w = if reads_voltage w.text then [] else Syntax w.place ∷ []
 
@@ -88,7 +100,7 @@ end_faults f None p = lacks f p
 abbrev pub list_faults : Form → List WordView → Option Stop → Place → List Fault
 list_faults f [] stop p = end_faults f stop p
 list_faults Closed (w ∷ ws) stop p = Syntax w.place ∷ []
-list_faults Rest (w ∷ ws) stop p = list_faults Rest ws stop p
+list_faults Rest (w ∷ ws) stop p = and_then (name_faults w) (list_faults Rest ws stop p)
 list_faults (Needs e f) (w ∷ ws) stop p = and_then (element_faults e w) (list_faults f ws stop p)
 list_faults (May e f) (w ∷ ws) stop p = and_then (element_faults e w) (list_faults f ws stop p)
 list_faults (OffOr f) (w ∷ ws) stop p =
@@ -103,7 +115,7 @@ faults_of_list f w = list_faults f (words_of (elements_of w)) (elements_of w).st
 -- the faults of a word as the value of the option whose word stands at a place
 abbrev pub value_faults : Value → WordView → WordView → List Fault
 value_faults Flag o w = []
-value_faults Name o w = []
+value_faults Name o w = name_faults w
 value_faults (OneOf words) o w = if is_among words w.text then [] else Unsupported w.place w.text ∷ []
 value_faults Clamp o w = if is_among (codes "0" ∷ codes "1" ∷ []) w.text then [] else ClampRefused w.place ∷ []
 value_faults Threshold o w = if reads_voltage w.text then [] else Unsupported o.place o.text ∷ []
@@ -329,8 +341,8 @@ abbrev pub name_missing : Option Place → Named
 name_missing None = named_part None (cut [])
 name_missing (Some p) = named_part None (cut (Syntax p ∷ []))
 
-abbrev pub behind_list : List Fault → Part → Part
-behind_list faults rest = if is_any_syntax faults then cut faults else with_faults faults rest
+abbrev pub behind_name : List Fault → Part → Part
+behind_name faults rest = if is_any_syntax faults then cut faults else with_faults faults rest
 
 abbrev pub named_of : NameRule → Option Place → (List WordView → Part) → List WordView → Named
 named_of NoName e more ws = named_part None (more ws)
@@ -338,8 +350,8 @@ named_of MayName e more [] = named_part None (more [])
 named_of OneName e more [] = name_missing e
 named_of NameList e more [] = name_missing e
 named_of MayName e more (w ∷ ws) = named_part (Some w) (more ws)
-named_of OneName e more (w ∷ ws) = named_part (Some w) (more ws)
-named_of NameList e more (w ∷ ws) = named_part (Some w) (behind_list (faults_of_list Rest w) (more ws))
+named_of OneName e more (w ∷ ws) = named_part (Some w) (behind_name (name_faults w) (more ws))
+named_of NameList e more (w ∷ ws) = named_part (Some w) (behind_name (faults_of_list Rest w) (more ws))
 
 -- the faults of a command, and the missing option where it was read to its end
 abbrev pub all_faults : Place → List OptionRule → Part → List Fault

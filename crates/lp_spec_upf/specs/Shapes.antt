@@ -5,13 +5,14 @@ use Rattle.lp_model.specs.declared.upf.CommandWord.TheVariants as commands
 use Rattle.lp_model.specs.declared.upf.OptionWord.{OptionWord}
 use Rattle.lp_model.specs.declared.upf.OptionWord.TheVariants as options
 
--- an element of a list: any name, one of some words, or a voltage
+-- an element of a list: any name, any text, one of some words, or a voltage
 pub data Element : Type 0 where
   Any : Element
+  Text : Element
   Among : List (List ℕ) → Element
   Voltage : Element
 
--- which elements a list has from here on: none, any number, one and others, or one and others or none
+-- which elements a list has from here on: none, any number of names, one and others, or one and others or none
 pub data Form : Type 0 where
   Closed : Form
   Rest : Form
@@ -43,7 +44,7 @@ pub record OptionRule : Type 0 where
   pub twin : Bool
   pub repeats : Bool
 
--- what stands behind the word of a command: options alone, a name or none, a name, or a list of names
+-- what stands behind the word of a command: options alone, a word or none, a name, or a list of names
 pub data NameRule : Type 0 where
   NoName : NameRule
   MayName : NameRule
@@ -120,8 +121,8 @@ switch_rules =
     ∷ needed options.InputSupplyPort (pair_of Any Any)
     ∷ needed options.OutputSupplyPort (pair_of Any Any)
     ∷ needed options.ControlPort (pair_of Any Any)
-    ∷ needed options.OnState (Listed (Needs Any (Needs Any (Needs Any Closed))))
-    ∷ free options.OffState (pair_of Any Any)
+    ∷ needed options.OnState (Listed (Needs Any (Needs Any (Needs Text Closed))))
+    ∷ free options.OffState (pair_of Any Text)
     ∷ []
 
 abbrev pub isolation_rules : List OptionRule

@@ -4,7 +4,9 @@ use Rattle.std.specs.List.{list_all}
 use Rattle.lp_text.specs.declared.place.Place.{Place}
 use Rattle.lp_upf_words.specs.declared.mode.Stop.{Stop}
 use Rattle.lp_upf_words.specs.Bytes.{characters}
-use Rattle.lp_upf_words.specs.Elements.{bytes_after}
+use Rattle.lp_model.specs.CommandsView.{WordView}
+use Rattle.lp_upf_words.specs.Elements.{bytes_after, elements_of, words_of}
+use Rattle.lp_upf_words.specs.Sizes.{is_short}
 use Rattle.lp_upf_words.specs.Words.{Outcome, Denotes, DenotesList}
 use Rattle.lp_upf_words.specs.Leaving.{LeavesAt}
 
@@ -30,3 +32,7 @@ OneElements = (p : Place) (content : List ℕ) (a b : Outcome) → DenotesList p
 -- bytes that were taken as characters come back
 abbrev pub BytesComeBack : Type 0
 BytesComeBack = (bytes : List ℕ) → list_all (λ b. nat_lt b 256) bytes ≡ true → bytes_after None (characters bytes) ≡ bytes
+
+-- the elements of a word that is no longer than a file are so too
+abbrev pub ElementsAreShort : Type 0
+ElementsAreShort = (w : WordView) → is_short w ≡ true → list_all is_short (words_of (elements_of w)) ≡ true

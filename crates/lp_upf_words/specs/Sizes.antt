@@ -23,6 +23,10 @@ is_within most last w = nat_le (length (content_of w)) most && (nat_le w.place.l
 abbrev pub is_modest : WordView → Bool
 is_modest w = is_within LIMIT (LIMIT + 1) w
 
+-- no longer than a file
+abbrev pub is_short : WordView → Bool
+is_short w = nat_le (length (content_of w)) LIMIT
+
 -- the words of a text are as those of a file, and together no longer than the text
 pub record AreModest (text : List ℕ) (g : Gathered) : Type 0 where
   pub commands : list_all (list_all is_modest) g.commands ≡ true

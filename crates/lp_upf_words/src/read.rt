@@ -8,6 +8,7 @@ ghost use Rattle.lp_upf_words.specs.Elements.{kind_in};
 ghost use Rattle.lp_upf_words.specs.Words.{outcome_of};
 ghost use Rattle.lp_upf_words.specs.Reading.{cost_if, finished, left, read, size_of, start, step_by};
 ghost use Rattle.lp_upf_words.specs.Views.{gathered_of, numbers_of, state_of};
+ghost use Rattle.lp_upf_words.specs.Sizes.{AreModest};
 ghost use Rattle.lp_upf_words.specs.Answer.{fault_numbers, gathered_in, read_numbers, IsFaultOf, ReadsWords};
 
 use crate::answer::WordsRead;
@@ -127,7 +128,7 @@ fn words_read(reader: Reader, names: &mut Names, stop: Option<Stop>) -> Result<W
 /// into the table of names.
 ///
 /// The text has at most 67,108,864 bytes, and the table at most 3,000,000,000 names. It has grown by at most as many
-/// names as the text has bytes.
+/// names as the text has bytes. The words are no longer than the text, and stand in it.
 ///
 /// The fault, if there is one, is `Syntax` (F30) at a byte that cannot stand there, as one right behind a closing brace
 /// or quote, or one past the last byte of a text that ends within a word; or `Unsupported` (F31) of `$`, or of `[`
@@ -140,6 +141,7 @@ pub fn read_words(alloc: Global, names: &mut Names, text: &[u8]) -> Result<Words
     requires small { length text.now ≤ LIMIT }
     requires room { length names.old ≤ most_names_before }
     ensures ok { IfOk result (ReadsWords text.now names.new) }
+    ensures modest { IfOk result (λ r. AreModest text.now (gathered_in names.new r)) }
     ensures numbers { IfOk result (λ r. numbers_below (length names.new) (read_numbers r) ≡ true) }
     ensures grown { Grown names.old names.new }
     ensures few { length names.new ≤ length names.old + length text.now }

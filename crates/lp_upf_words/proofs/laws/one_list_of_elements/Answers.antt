@@ -1,4 +1,5 @@
 use Rattle.lp_upf_words.proofs.Content.{come_back}
+use Rattle.lp_upf_words.proofs.Modest.{elements_short}
 use Rattle.lp_upf_words.proofs.Once.{each_list, once_list}
 use Rattle.lp_upf_words.proofs.laws.one_list_of_elements.Goals as goal
 
@@ -10,3 +11,6 @@ returns-clause-once c = once_list
 
 pub returns-clause-bytes : goal.returns-clause-bytes
 returns-clause-bytes c = come_back
+
+pub returns-clause-short : goal.returns-clause-short
+returns-clause-short c = elements_short
