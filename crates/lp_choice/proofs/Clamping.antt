@@ -1,7 +1,7 @@
 -- Clamps over numbers of names, and over their texts.
-use Rattle.std.proofs.Common.{◌≡◌, ℕ, Bool, true, false, not, ◌&&◌, ◌||◌, List, [], ◌∷◌, map, Option, Some, None, Result, Ok, Err, refl, sym, ap, ◌∙◌}
+use Rattle.std.proofs.Common.{◌≡◌, ◌+◌, ℕ, Bool, true, false, not, ◌&&◌, ◌||◌, List, [], ◌∷◌, map, Option, Some, None, Result, Ok, Err, refl, sym, ap, ◌∙◌}
 use Rattle.std.specs.Prelude.{IfOk, if◌then◌else◌, bytes_eq, filter, is_some, length, ◌==◌}
-use Rattle.std.specs.List.{list_any}
+use Rattle.std.specs.List.{list_any, list_all}
 use Rattle.std.specs.Option.{option_map}
 use Rattle.std.proofs.lemmas.List.{length-map}
 use Rattle.lp_model.specs.declared.library.PgKind.{PgKind}
@@ -26,8 +26,9 @@ use Rattle.lp_model.specs.declared.need.IsoNeed.{IsoNeed}
 use Rattle.lp_spec_fit.specs.Needs.{clamp_need, mapped_view}
 use Rattle.lp_spec_fit.specs.Fits.{clamps, fits_clamp, fits_with_pins, has_function, is_iso_data, is_iso_enable}
 use Rattle.lp_spec_fit.specs.Choice.{is_mapped, clamp_choice}
-use Rattle.lp_choice.specs.Wanted.{clamp_steps}
-use Rattle.lp_choice.specs.Clamps.{clamp_fits, clamp_origin, is_backup, pins_clamp, only_isolates}
+use Rattle.lp_choice.specs.Wanted.{clamp_steps, of_two, off_steps}
+use Rattle.lp_choice.specs.Rails.{down_agrees, placed_origins}
+use Rattle.lp_choice.specs.Clamps.{relates, clamp_fits, clamp_origin, is_backup, pins_clamp, only_isolates}
 use Rattle.lp_choice.specs.Least.{area_if, least_place}
 use Rattle.lp_choice.specs.Chosen.{is_listed, clamp_areas}
 use Rattle.lp_choice.proofs.LeastChoice.{least-is-choice}
@@ -61,13 +62,13 @@ module _ (texts : List (List ℕ)) where
   named-any n [] = refl
   named-any n (m ∷ names) = ap (λ b. bytes_eq n (text_at texts m.0) || b) (named-any n names)
 
-  listed : (list : Option (List NameId)) (c : Cell) → is_listed texts list c.name ≡ is_mapped (mapped_view texts list) (cell_view texts c)
+  pub listed : (list : Option (List NameId)) (c : Cell) → is_listed texts list c.name ≡ is_mapped (mapped_view texts list) (cell_view texts c)
   listed None c = refl
   listed (Some names) c = sym (named-any (text_at texts c.name.0) names)
 
   -- ---- parts of a cell
 
-  some-seen : {A B : Type 0} (f : A → B) (o : Option A) → is_some o ≡ is_some (option_map f o)
+  pub some-seen : {A B : Type 0} (f : A → B) (o : Option A) → is_some o ≡ is_some (option_map f o)
   some-seen f None = refl
   some-seen f (Some x) = refl
 
@@ -84,7 +85,7 @@ module _ (texts : List (List ℕ)) where
       by true e = ap (λ ys. f x ∷ ys) e
       by false e = e
 
-  part-seen : (part : Part) (p : PinView → Bool) → ((q : Pin) → has_part part q ≡ p (pin_view texts q)) → (pins : List Pin) → option_map (pin_view texts) (only (filter (has_part part) pins)) ≡ only (filter p (map (pin_view texts) pins))
+  pub part-seen : (part : Part) (p : PinView → Bool) → ((q : Pin) → has_part part q ≡ p (pin_view texts q)) → (pins : List Pin) → option_map (pin_view texts) (only (filter (has_part part) pins)) ≡ only (filter p (map (pin_view texts) pins))
   part-seen part p e pins =
       (λ i. option_map (pin_view texts) (only (filter (λ q. e q i) pins)))
       ∙ (only-map (pin_view texts) (filter (λ q. p (pin_view texts q)) pins)
@@ -117,7 +118,7 @@ module _ (texts : List (List ℕ)) where
   and-swap false true = refl
   and-swap false false = refl
 
-  grouped : (u o s l p : Bool) → ((u && (o && (s && l))) && p) ≡ (u && (o && (s && (l && p))))
+  pub grouped : (u o s l p : Bool) → ((u && (o && (s && l))) && p) ≡ (u && (o && (s && (l && p))))
   grouped false o s l p = refl
   grouped true false s l p = refl
   grouped true true false l p = refl
@@ -134,6 +135,13 @@ module _ (texts : List (List ℕ)) where
     joins-as : (k : ℕ) (g : PgPin) → join k (pg_pin_view texts g) ≡ origin g
     joins-as k g = λ i. if backups-by c.pgs i then by_kind (Some n.place.power.0) (Some n.supply.power.0) n.place g.kind else by_kind (Some n.supply.power.0) None n.supply g.kind
 
+    by-place : (k : ℕ) (pgs : List PgPin) → map origin pgs ≡ placed_origins (λ j. origin) k pgs
+    by-place k [] = refl
+    by-place k (g ∷ pgs) = ap (λ os. origin g ∷ os) (by-place (k + 1) pgs)
+
+    abbrev rows : map origin c.pgs ≡ placed_origins (λ j. origin) 0 c.pgs
+    rows = by-place 0 c.pgs
+
     pins-join : (d e y : Option Pin) → pins_clamp texts n c d e y ≡ fits_with_pins (clamp_need texts n) (cell_view texts c) join (option_map (pin_view texts) d) (option_map (pin_view texts) e) (option_map (pin_view texts) y)
     pins-join None e y = refl
     pins-join (Some d) None y = refl
@@ -142,8 +150,8 @@ module _ (texts : List (List ℕ)) where
         let names : List (List ℕ) = text_at texts d.name.0 ∷ text_at texts e.name.0 ∷ [] in
         λ i.
         has_function names (λ v. clamp-steps n.clamp n.high (v (text_at texts d.name.0)) (v (text_at texts e.name.0)) i) (option_map (expr_view texts) y.function)
-        && (sym (relates-all texts c join origin joins-as n.supply c.pins) i
-        && ((λ j. sym (joined-all texts c join origin joins-as) j && down-is texts c join origin joins-as n.supply y.power_down j)
+        && (((λ j. list_all (relates (rows j) n.supply) c.pins) ∙ sym (relates-all texts c join (λ j. origin) joins-as n.supply c.pins)) i
+        && ((λ j. ((λ k. list_all is_some (rows k)) ∙ sym (joined-all texts c join (λ k. origin) joins-as)) j && ((λ k. down_agrees texts c.pgs (rows k) (n.supply.power.0 ∷ n.supply.gnd.0 ∷ []) (of_two off_steps) y.power_down) ∙ down-is texts c join (λ k. origin) joins-as n.supply y.power_down) j)
         ∙ and-swap (all_joined (cell_view texts c) join) (power_down_equals (cell_view texts c) join (n.supply ∷ []) (option_map (expr_view texts) y.power_down))) i)
 
     pub fits-join : clamp_fits texts n c ≡ fits_clamp (clamp_need texts n) (cell_view texts c)

@@ -6,3 +6,5 @@ mod Slots
 mod Joining
 mod Joints
 mod Clamping
+mod Shifting
+mod Switching

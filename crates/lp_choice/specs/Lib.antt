@@ -6,3 +6,6 @@ pub mod Parts
 pub mod Wanted
 pub mod Clamps
 pub mod Chosen
+pub mod Voltages
+pub mod Shifts
+pub mod Switches

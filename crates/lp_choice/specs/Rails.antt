@@ -1,5 +1,5 @@
 -- To what the power and ground pins of a cell are joined, by their places (own rule).
-use Rattle.std.specs.Prelude.{ℕ, Bool, false, not, List, [], ◌∷◌, ◌++◌, map, length, Option, Some, None, if◌then◌else◌, bytes_eq}
+use Rattle.std.specs.Prelude.{ℕ, ◌+◌, Bool, false, not, List, [], ◌∷◌, ◌++◌, map, length, Option, Some, None, if◌then◌else◌, bytes_eq}
 use Rattle.std.specs.List.{position}
 use Rattle.std.specs.Option.{option_map}
 use Rattle.lp_text.specs.Texts.{text_at}
@@ -42,3 +42,8 @@ down_agrees texts pgs origins off wanted (Some e) = by (once same_key (origins_o
   where
     by : List ℕ → Bool
     by keys = agree e (map (λ (n : NameId). rail_wire keys (rail_of texts pgs origins n)) e.variables) wanted (map (number_wire keys) off) (length keys)
+
+-- the origins of pins by their places
+abbrev pub placed_origins : (ℕ → PgPin → Option ℕ) → ℕ → List PgPin → List (Option ℕ)
+placed_origins f k [] = []
+placed_origins f k (g ∷ gs) = f k g ∷ placed_origins f (k + 1) gs

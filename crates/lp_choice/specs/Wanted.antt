@@ -18,3 +18,19 @@ off_steps = Variable 0 ∷ Variable 1 ∷ And ∷ Not ∷ []
 -- a function of two things
 abbrev pub of_two : List Step → Formula
 of_two steps = record { variables = record { 0 = 0 } ∷ record { 0 = 0 } ∷ []; steps = steps }
+
+-- of two powers and grounds: that one of the four is not on
+abbrev pub either_off_steps : List Step
+either_off_steps = Variable 0 ∷ Variable 1 ∷ And ∷ Variable 2 ∷ Variable 3 ∷ And ∷ And ∷ Not ∷ []
+
+-- a function of four things
+abbrev pub of_four : List Step → Formula
+of_four steps = record { variables = record { 0 = 0 } ∷ record { 0 = 0 } ∷ record { 0 = 0 } ∷ record { 0 = 0 } ∷ []; steps = steps }
+
+-- of a data alone: that data
+abbrev pub pass_steps : List Step
+pass_steps = Variable 0 ∷ []
+
+-- a function of one thing
+abbrev pub of_one : List Step → Formula
+of_one steps = record { variables = record { 0 = 0 } ∷ []; steps = steps }

@@ -31,7 +31,7 @@ pub(crate) fn has_function(
 }
 
 /// Whether a function is a wanted one of the values of names.
-fn is_function(
+pub(crate) fn is_function(
     alloc: Global,
     names: &Names,
     given: &[NameId],

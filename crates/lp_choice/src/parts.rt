@@ -16,6 +16,8 @@ pub(crate) enum Part {
     ShiftedData,
     /// An output.
     Output,
+    /// An input, which is the control where it is the only one.
+    Control,
 }
 
 /// The one pin of a part.
@@ -59,6 +61,7 @@ fn has_part(part: Part, pin: &Pin) -> bool
         (Part::Enable, Direction::Input, PinUse::IsoEnable) => true,
         (Part::ShiftedData, Direction::Input, PinUse::ShiftData) => true,
         (Part::Output, Direction::Output, _) => true,
+        (Part::Control, Direction::Input, _) => true,
         _ => false,
     }
 }

@@ -1,5 +1,5 @@
 ghost use Rattle.std.specs.Prelude.{◌≡◌, IfOk};
-ghost use Rattle.lp_choice.specs.Wanted.{clamp_steps, off_steps, of_two};
+ghost use Rattle.lp_choice.specs.Wanted.{clamp_steps, either_off_steps, off_steps, of_four, of_two};
 
 use lp_expr::{Expr, Step};
 use lp_text::{NameId, NoMemory};
@@ -34,5 +34,26 @@ fn of_two(alloc: Global, steps: &[Step]) -> Result<Expr, NoMemory>
 {
     let variables = Vec::from_slice(alloc, &[NameId(0), NameId(0)])?;
     let steps = Vec::from_slice(alloc, steps)?;
+    Ok(Expr::new(alloc, variables, steps)?)
+}
+
+/// Whether a power or its ground, of two such pairs, is not on.
+pub(crate) fn either_off_function(alloc: Global) -> Result<Expr, NoMemory>
+    ensures { IfOk result (λ e. e ≡ of_four either_off_steps) }
+{
+    let (first, second) = (Step::Variable(0), Step::Variable(1));
+    let (third, fourth) = (Step::Variable(2), Step::Variable(3));
+    let steps = [
+        first,
+        second,
+        Step::And,
+        third,
+        fourth,
+        Step::And,
+        Step::And,
+        Step::Not,
+    ];
+    let variables = Vec::from_slice(alloc, &[NameId(0), NameId(0), NameId(0), NameId(0)])?;
+    let steps = Vec::from_slice(alloc, &steps)?;
     Ok(Expr::new(alloc, variables, steps)?)
 }

@@ -1,0 +1,6 @@
+use Rattle.std.proofs.Common.{◌≡◌, map, take}
+use Rattle.lp_choice.specs.Chosen.{shift_area}
+use Rattle.lp_choice.proofs.choose.shift_areas.Given as goal
+
+abbrev pub invariant-loop-cell : goal.invariant-loop-cell
+invariant-loop-cell l = l.areas.items ≡ map (shift_area l.names l.need) (take l.cell-index l.cells)
