@@ -22,7 +22,7 @@ use Rattle.lp_spec_resolved.specs.Supplies.{supplies_made, project_made, lists_m
 use Rattle.lp_spec_resolved.specs.Said.{IntentFault, OfLimit, named, within, intended, is_too_long, Intends}
 use Rattle.lp_spec_resolved.specs.Laws.{IsDeclaredBit}
 use Rattle.lp_spec_resolved.proofs.Origins.{slice-in}
-use Rattle.lp_spec_resolved.proofs.Whole.{made-from, strategies-name, sets-have, controls-declared, origins-named, switches-kept}
+use Rattle.lp_spec_resolved.proofs.Whole.{made-from, strategies-name, sets-have, controls-declared, origins-named, origins-visible, switches-kept}
 use Rattle.lp_spec_written_at.specs.Sources.{IsNetBit, HasControls}
 use Rattle.lp_spec_proper.specs.Insertable as proper
 use Rattle.lp_spec_proper.specs.Insertable.{IsResolved}
@@ -116,6 +116,7 @@ module _ (s : Structure) (text : List ℕ) (m : Made) (name : Scoped → ScopedN
     controls = controls-so;
     inside = inside-so;
     origin_names = origins-named s text m name margin x;
+    visible = origins-visible s text m name margin x;
     scopes = λ y i. (switches-kept s text m name margin w.top w.depth x y.origin y.input y.control y.high (switch-origin-is (project_made s name m margin) y i)).instance;
     network = networks-made s text m name x d;
   }

@@ -18,6 +18,7 @@ use Rattle.lp_spec_resolved.specs.Supplies.{supplies_made, project_made, lists_m
 use Rattle.lp_spec_resolved.specs.Said.{Intends}
 use Rattle.lp_spec_written_at.specs.Sources.{HasControls, HasOriginNames}
 use Rattle.lp_spec_proper.specs.Insertable.{IsResolved}
+use Rattle.lp_spec_legal.specs.Legal.{HasVisibleOrigins}
 
 -- what the theorem of insertion asks of the resolver of power intent
 pub record IsGiven (p : Project) (l : Lists) : Type 0 where
@@ -25,6 +26,7 @@ pub record IsGiven (p : Project) (l : Lists) : Type 0 where
   pub controls : HasControls p
   pub inside : HasControlsInside p
   pub origin_names : HasOriginNames p
+  pub visible : HasVisibleOrigins p
   pub scopes : (x : SwitchAt) → IsIn x (all_switches p) → is_some (module_at p.structure (l.scope_of_switch x.origin)) ≡ true
   pub network : IsNetwork p.supplies
 

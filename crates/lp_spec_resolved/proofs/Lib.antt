@@ -11,3 +11,4 @@ pub mod Origins
 pub mod Declared
 pub mod Named
 pub mod Switches
+pub mod Visible

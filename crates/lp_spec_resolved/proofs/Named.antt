@@ -137,7 +137,7 @@ source-of (x ∷ p) name input a e = absurd cc
 source-is : (p : Scoped) (input : Bool) (a : Scoped) → source_in (MakesPort p input) ≡ Some (OfPort a) → (p ≡ a) × (a.scope ≡ [])
 source-is p input a e = source-of p.scope p.name input a e
 
-command-of : (d : Command) (a : Scoped) → source_in d ≡ Some (OfPort a) → (input : Bool) × (d ≡ MakesPort a input) × (a.scope ≡ [])
+pub command-of : (d : Command) (a : Scoped) → source_in d ≡ Some (OfPort a) → (input : Bool) × (d ≡ MakesPort a input) × (a.scope ≡ [])
 command-of (MakesPort p input) a e = let is = source-is p input a e in (input, ap (λ x. MakesPort x input) is.0, is.1)
 command-of d a e = absurd cc
 
@@ -180,7 +180,7 @@ module _ (s : Structure) (name : Scoped → ScopedName) (m : Made) (margin : ℕ
   abbrev origins_viewed : List Origin
   origins_viewed = map view_of (map (origin_made s name m) (numbered 0 (sources (network m))))
 
-  port-at : (o : ℕ) → slice_get origins_viewed o ≡ Some FromPort → (a : Scoped) × (slice_get (sources (network m)) o ≡ Some (OfPort a))
+  pub port-at : (o : ℕ) → slice_get origins_viewed o ≡ Some FromPort → (a : Scoped) × (slice_get (sources (network m)) o ≡ Some (OfPort a))
   port-at o e = by (slice_get (sources (network m)) o) refl
     where
       by : (q : Option Source) → slice_get (sources (network m)) o ≡ q → (a : Scoped) × (slice_get (sources (network m)) o ≡ Some (OfPort a))
@@ -193,7 +193,7 @@ module _ (s : Structure) (name : Scoped → ScopedName) (m : Made) (margin : ℕ
           let same : Some (view_of (origin_made s name m (o + 0, OfSwitch w))) ≡ Some FromPort = sym at ∙ e in
           absurd cc
 
-  name-at : (o : ℕ) (a : Scoped) → slice_get (sources (network m)) o ≡ Some (OfPort a) → unwrap_or (slice_get (project_made s name m margin).origin_names o) [] ≡ a.name
+  pub name-at : (o : ℕ) (a : Scoped) → slice_get (sources (network m)) o ≡ Some (OfPort a) → unwrap_or (slice_get (project_made s name m margin).origin_names o) [] ≡ a.name
   name-at o a e = ap (λ q. unwrap_or q []) (slice-map (λ (x : Source). (source_name x).name) (sources (network m)) o (OfPort a) e)
 
   in-top : (o : ℕ) (a : Scoped) → slice_get (sources (network m)) o ≡ Some (OfPort a) → a.scope ≡ []

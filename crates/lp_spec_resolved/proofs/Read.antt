@@ -11,10 +11,10 @@ use Rattle.lp_model.specs.CommandsView.{WordView, OptionView, CommandView}
 use Rattle.lp_upf_words.specs.declared.mode.Stop.{Stop}
 use Rattle.lp_spec_upf.specs.Shapes.{OptionRule, NameRule, NoName, MayName, OneName, NameList, Rest, Value, Flag, Name, OneOf, Clamp, Threshold, Listed, shape_of, all_commands}
 use Rattle.lp_spec_upf.specs.Commands.{Fault, Syntax, Unsupported, is_any_syntax, Part, cut, with_faults, with_option, at_end, Next, Option_, ValueOf, Skipped, value_faults, values_of, is_word_of, rule_of, is_dashed, has_option, option_at, valued, begun, listed, unlisted, at_option, at_skipped, at_word, options_of}
-use Rattle.lp_spec_upf.specs.Commands.{words_had, lacks_none, sensed, expression_faults, on_sense, judged_by, option_in, name_in, Sense, TableOf, rules_for, options_from, Named, faults_of_list, named_of}
+use Rattle.lp_spec_upf.specs.Commands.{words_had, lacks_none, sensed, expression_faults, on_sense, judged_by, option_in, name_in, Sense, TableOf, rules_for, options_from, Named, faults_of_list, name_faults, behind_name, named_of}
 use Rattle.lp_spec_upf.specs.Commands.{all_faults, Said, Does, Fails, Breaks, said_by, command_in, command_by, command_of, tables_after, last_of, after_command, on_said, first_end, later_ends, commands_of}
 use Rattle.lp_spec_design.specs.Winners.{IsIn}
-use Rattle.lp_spec_resolved.specs.Complete.{HasForm, IsOption, IsComplete}
+use Rattle.lp_spec_resolved.specs.Complete.{HasName, HasForm, IsOption, IsComplete}
 
 -- ---- a part that is whole and has no fault
 
@@ -184,6 +184,13 @@ rules-same commands.UseInterfaceCell tables rules p h = refl
 rules-same commands.MapRetentionCell tables rules p h = refl
 rules-same commands.MapPowerSwitch tables rules p h = refl
 
+behind-sound : (rules : List OptionRule) (faults : List Fault) (rest : Part) → SoundWhere rules rest → SoundWhere rules (behind_name faults rest)
+behind-sound rules faults rest h = by (is_any_syntax faults)
+  where
+    by : (b : Bool) → SoundWhere rules (if b then cut faults else with_faults faults rest)
+    by true = cut-sound rules faults
+    by false = faults-sound rules faults rest h
+
 -- with or without a name
 named-sound : (rules : List OptionRule) (r : NameRule) (e : Option Place) (more : List WordView → Part) (ws : List WordView) → ((vs : List WordView) → SoundWhere rules (more vs)) → SoundWhere rules (named_of r e more ws).rest
 named-sound rules NoName e more ws h = h ws
@@ -193,12 +200,27 @@ named-sound rules OneName (Some p) more [] h = cut-sound rules (Syntax p ∷ [])
 named-sound rules NameList None more [] h = cut-sound rules []
 named-sound rules NameList (Some p) more [] h = cut-sound rules (Syntax p ∷ [])
 named-sound rules MayName e more (w ∷ ws) h = h ws
-named-sound rules OneName e more (w ∷ ws) h = h ws
-named-sound rules NameList e more (w ∷ ws) h = by (is_any_syntax (faults_of_list Rest w))
+named-sound rules OneName e more (w ∷ ws) h = behind-sound rules (name_faults w) (more ws) (h ws)
+named-sound rules NameList e more (w ∷ ws) h = behind-sound rules (faults_of_list Rest w) (more ws) (h ws)
+
+-- a name without fault, where nothing behind it is at fault
+name-sound : (r : NameRule) (e : Option Place) (more : List WordView → Part) (ws : List WordView) → (named_of r e more ws).rest.whole ≡ true → (named_of r e more ws).rest.faults ≡ [] → HasName r (named_of r e more ws).name
+name-sound NoName e more ws w f = tt
+name-sound MayName e more [] w f = tt
+name-sound OneName None more [] w f = tt
+name-sound OneName (Some p) more [] w f = tt
+name-sound NameList None more [] w f = tt
+name-sound NameList (Some p) more [] w f = tt
+name-sound MayName e more (x ∷ ws) w f = tt
+name-sound NameList e more (x ∷ ws) w f = tt
+name-sound OneName e more (x ∷ ws) w f = by (is_any_syntax (name_faults x)) w f
   where
-    by : (b : Bool) → SoundWhere rules (if b then cut (faults_of_list Rest w) else with_faults (faults_of_list Rest w) (more ws))
-    by true = cut-sound rules (faults_of_list Rest w)
-    by false = faults-sound rules (faults_of_list Rest w) (more ws) (h ws)
+    rest_by : Bool → Part
+    rest_by b = if b then cut (name_faults x) else with_faults (name_faults x) (more ws)
+
+    by : (b : Bool) → (rest_by b).whole ≡ true → (rest_by b).faults ≡ [] → name_faults x ≡ []
+    by true g h = absurd (false≢true g)
+    by false g h = (none-left (name_faults x) (more ws).faults h).0
 
 -- a command without fault was read to its end, and lacks no option
 record IsFaultless (rules : List OptionRule) (rest : Part) : Type 0 where
@@ -242,7 +264,7 @@ module _ (word : CommandWord) (sense : Sense) (tables : List TableOf) (e : Optio
   read-complete : (p : Place) (ws : List WordView) → all_faults p rules (named_with ws).rest ≡ [] → (named_with ws).rest.whole ≡ true → IsComplete (command_with p (named_with ws))
   read-complete p ws f w =
       let sound = no-missing p rules (named_with ws).rest f w in
-      record { needed = sound.needed; options = λ h o i. (rest-sound ws h sound.whole sound.faults).options o i }
+      record { name = name-sound (shape_of word).name e (options_from word sense tables rules e) ws sound.whole sound.faults; needed = sound.needed; options = λ h o i. (rest-sound ws h sound.whole sound.faults).options o i }
 
   said-complete : (w : WordView) (ws : List WordView) (c : CommandView) → command_by (Some word) sense tables e w ws ≡ Does c → IsComplete c
   said-complete w ws c f =

@@ -1,16 +1,18 @@
 -- What a text gives, and what holds of it.
 use Rattle.std.proofs.Common.{◌≡◌, ◌≤◌, ℕ, Bool, true, false, List, [], length, Option, Some, None, refl, sym, ap, ◌∙◌, subst}
-use Rattle.std.specs.Prelude.{if◌then◌else◌, is_some, slice_get, Result, Ok, Err}
+use Rattle.std.specs.Prelude.{if◌then◌else◌, is_some, slice_get, unwrap_or, Result, Ok, Err}
+use Rattle.std.specs.List.{list_all}
 use Rattle.lp_model.specs.declared.fault.intent.IntentLimit.{IntentLimit}
 use Rattle.lp_model.specs.declared.fault.intent.IntentLimit.TheVariants as limits
 use Rattle.lp_model.specs.declared.intent.ScopedName.{ScopedName}
 use Rattle.lp_model.specs.CommandsView.{CommandView}
 use Rattle.lp_spec_upf.specs.Commands as upf
+use Rattle.lp_spec_upf.specs.Commands.{is_visible}
 use Rattle.lp_spec_upf.proofs.Once.{once}
 use Rattle.lp_spec_upf.proofs.Senses as senses
 use Rattle.lp_spec_design.specs.Keys.{Name, Path, Node}
 use Rattle.lp_spec_design.specs.Netlists.{Structure, module_at}
-use Rattle.lp_spec_design.specs.Intents.{SetNumber, Strategy, FromSwitch}
+use Rattle.lp_spec_design.specs.Intents.{SetNumber, Strategy, FromPort, FromSwitch}
 use Rattle.lp_spec_design.specs.Winners.{IsIn}
 use Rattle.lp_spec_design.proofs.Members.{of-map, of-some}
 use Rattle.lp_spec_origins.specs.Commands.{Scoped, PowerSwitch, MakesSwitch}
@@ -30,6 +32,7 @@ use Rattle.lp_spec_resolved.proofs.Read.{commands-complete}
 use Rattle.lp_spec_resolved.proofs.Named.{ports-apart, named-once}
 use Rattle.lp_spec_intent.proofs.Sound.{names-stand-inside}
 use Rattle.lp_spec_resolved.proofs.Switches.{switch-kept}
+use Rattle.lp_spec_resolved.proofs.Visible.{all-visible, names-visible}
 use Rattle.lp_spec_resolved.proofs.Facts.{All}
 use Rattle.lp_spec_resolved.proofs.Declared.{Declares, HasDeclared, all-declared}
 use Rattle.lp_spec_resolved.proofs.Kept.{all-kept}
@@ -142,3 +145,9 @@ switches-kept s text m name margin top shallow x =
     let from = made-from s text m x in
     let inside = names-stand-inside s from.0 m top from.2 in
     switch-kept s name m margin shallow inside.controls inside.scopes (controls-declared s text m x).switches
+
+pub origins-visible : (s : Structure) (text : List ℕ) (m : Made) (name : Scoped → ScopedName) (margin : ℕ) → Intends s text (Ok m)
+    → (o : ℕ) → slice_get (network_of (project_made s name m margin)).origins o ≡ Some FromPort → list_all is_visible (unwrap_or (slice_get (project_made s name m margin).origin_names o) []) ≡ true
+origins-visible s text m name margin x =
+    let from = made-from s text m x in
+    names-visible s name m margin (all-visible s from.0 m from.1 from.2)

@@ -1,9 +1,11 @@
 -- The statements of the laws of this crate (own rule).
 use Rattle.std.specs.Prelude.{◌≡◌, ◌≤◌, ◌<◌, ℕ, Bool, true, List, [], map, length, slice_get, unwrap_or, Some, None, Result, Ok, is_some}
+use Rattle.std.specs.List.{list_all}
 use Rattle.lp_model.specs.declared.library.Action.{Action}
 use Rattle.lp_model.specs.declared.intent.ScopedName.{ScopedName}
 use Rattle.lp_model.specs.NetlistView.{ModuleView}
 use Rattle.lp_model.specs.declared.intent.StrategyKind.TheVariants.{Isolation, Retention}
+use Rattle.lp_spec_upf.specs.Commands.{is_visible}
 use Rattle.lp_spec_design.specs.Keys.{Path, Node, Inner, Outer, Fixed}
 use Rattle.lp_spec_design.specs.Netlists.{Structure, module_at, upward}
 use Rattle.lp_spec_design.specs.Nodes.{nodes_in, nodes_of}
@@ -87,6 +89,13 @@ PortsHaveTheirNames p =
 
 abbrev pub OriginsAreNamed : Type 0
 OriginsAreNamed = (s : Structure) (text : List ℕ) (m : Made) (name : Scoped → ScopedName) (margin : ℕ) → Intends s text (Ok m) → PortsHaveTheirNames (project_made s name m margin)
+
+-- and each of them is visible ASCII
+abbrev pub OriginsAreVisible : Type 0
+OriginsAreVisible =
+    (s : Structure) (text : List ℕ) (m : Made) (name : Scoped → ScopedName) (margin : ℕ) → Intends s text (Ok m)
+    → (o : ℕ) → slice_get (network_of (project_made s name m margin)).origins o ≡ Some FromPort
+    → list_all is_visible (unwrap_or (slice_get (project_made s name m margin).origin_names o) []) ≡ true
 
 -- an origin of a project is a switch with the control, the sense and the scope of its command
 pub record IsOfSwitch (s : Structure) (m : Made) (o : ℕ) (k : Node) (high : Bool) : Type 0 where

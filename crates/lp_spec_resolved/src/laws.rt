@@ -5,6 +5,7 @@ ghost use Rattle.lp_spec_resolved.specs.Laws.{
   IntendedOnce,
   NodesAreFound,
   OriginsAreNamed,
+  OriginsAreVisible,
   SetsAreNumbered,
   SetsHaveOrigins,
   StrategiesNameTheirControls,
@@ -53,6 +54,11 @@ pub fn controls_are_declared()
 /// In the project that a text of power intent gives, two supply ports of the top have two names.
 pub fn origins_are_named()
     ensures { OriginsAreNamed }
+{}
+
+/// And each of these names is visible ASCII.
+pub fn origins_are_visible()
+    ensures { OriginsAreVisible }
 {}
 
 /// In the project that a text of power intent gives over a netlist with a top, no module instance of which is deeper

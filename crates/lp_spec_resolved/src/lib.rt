@@ -4,7 +4,7 @@
 mod laws;
 
 pub use laws::{
-    controls_are_declared, nodes_are_found, origins_are_named, sets_are_numbered,
-    sets_have_origins, strategies_name_their_controls, switches_are_kept, text_is_intended,
-    text_is_intended_once,
+    controls_are_declared, nodes_are_found, origins_are_named, origins_are_visible,
+    sets_are_numbered, sets_have_origins, strategies_name_their_controls, switches_are_kept,
+    text_is_intended, text_is_intended_once,
 };
