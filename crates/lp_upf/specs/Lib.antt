@@ -1,0 +1,11 @@
+pub mod Answer
+pub mod Controls
+pub mod Faults
+pub mod Lists
+pub mod Named
+pub mod Options
+pub mod Said
+pub mod Senses
+pub mod States
+pub mod Tables
+pub mod Turns
