@@ -10,18 +10,19 @@ use Rattle.lp_model.specs.declared.graph.WireKind.TheVariants.{Chain}
 use Rattle.lp_model.specs.declared.plan.AddedKind.TheVariants.{Clamp}
 use Rattle.lp_spec_bridge.proofs.Samples.{tables, pin_at, of_edge, of_leaf, edge}
 use Rattle.lp_spec_edits.specs.Net.{Signal, CellPins, Net, net_of, source_at, edge_at}
-use Rattle.lp_spec_edits.specs.Edits.{split_edge, add_cell, connect_pin, name_at, number_at}
+use Rattle.lp_spec_edits.specs.Edits.{split_edge, add_cell, connect_pin, name_at, number_at, swap_cell}
 use Rattle.std.specs.Prelude.{slice_index_or}
 
 abbrev signal : ℕ → Bool → Signal
 signal name drives = record { name = name; drives = drives }
 
--- the gate of the design, twice, and a clamp with data, enable, output and two pins for its supply
+-- the gate of the design, twice, a clamp with data, enable, output and two pins for its supply, and a gate of other pins, in another order
 abbrev cells : List CellPins
 cells =
     record { signals = signal 0 false ∷ signal 1 true ∷ []; pgs = [] }
     ∷ record { signals = signal 0 false ∷ signal 1 true ∷ []; pgs = [] }
     ∷ record { signals = signal 2 false ∷ signal 3 false ∷ signal 1 true ∷ []; pgs = false ∷ false ∷ [] }
+    ∷ record { signals = signal 1 true ∷ signal 4 false ∷ signal 0 false ∷ []; pgs = false ∷ [] }
     ∷ []
 
 abbrev begun : Net
@@ -93,3 +94,12 @@ above = (refl, refl, refl)
 
 above_named : (name_at one_above 9 ≡ Added Chain) × (name_at one_above 3 ≡ Scalar (record { 0 = 5 }))
 above_named = (refl, refl)
+
+-- ---- another cell
+
+abbrev other_gate : Net
+other_gate = swap_cell begun 0 3
+
+-- its output comes first and drives what it drove, its input is joined as it was, and its other pins are open
+swapped : (row_of other_gate 0 ≡ pin_at 5 ∷ Unconnected ∷ pin_at 4 ∷ Unconnected ∷ []) × (source_at other_gate 5 ≡ of_leaf 0 0)
+swapped = (refl, refl)

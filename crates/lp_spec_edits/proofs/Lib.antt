@@ -7,4 +7,5 @@ pub mod Gaps
 pub mod Joined
 pub mod Opened
 pub mod Splits
+pub mod Swapped
 pub mod Wires

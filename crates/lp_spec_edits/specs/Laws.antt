@@ -4,9 +4,9 @@ use Rattle.lp_model.specs.declared.graph.Source.TheVariants.{Nothing}
 use Rattle.lp_model.specs.declared.graph.WireKind.{WireKind}
 use Rattle.lp_model.specs.declared.plan.AddedKind.{AddedKind}
 use Rattle.lp_spec_bridge.specs.Tables.{IsClosed}
-use Rattle.lp_spec_edits.specs.Net.{Net, tables_of_net, source_at}
-use Rattle.lp_spec_edits.specs.Edits.{add_cell, connect, add_wire, add_top_port, assign, punch_in, punch_out, head_at, split_behind, split_from, lead}
-use Rattle.lp_spec_edits.specs.Sound.{IsSound, IsEdited, no_entry, no_pin, is_pin, is_its_edge, is_its_pin, CanConnect, CanAddCell, CanAddWire, CanAddTopPort, CanAssign, CanPunch, CanSplitBehind, CanSplitFrom, CanLead}
+use Rattle.lp_spec_edits.specs.Net.{Net, tables_of_net, source_at, cell_pins, cell_pins_at}
+use Rattle.lp_spec_edits.specs.Edits.{add_cell, connect, add_wire, add_top_port, assign, punch_in, punch_out, head_at, split_behind, split_from, lead, swap_cell}
+use Rattle.lp_spec_edits.specs.Sound.{IsSound, IsEdited, no_entry, no_pin, is_pin, is_its_edge, is_its_pin, CanConnect, CanAddCell, CanAddWire, CanAddTopPort, CanAssign, CanPunch, CanSplitBehind, CanSplitFrom, CanLead, CanSwap, IsSwapped}
 
 -- a cell that is added changes no entry
 abbrev pub CellsAdded : Type 0
@@ -59,3 +59,7 @@ ConstantsLed =
 -- sound tables are closed
 abbrev pub SoundIsClosed : Type 0
 SoundIsClosed = (n : Net) → IsSound n → IsClosed (tables_of_net n)
+
+-- another cell takes the place of one, pin by pin
+abbrev pub CellsSwapped : Type 0
+CellsSwapped = (n : Net) → IsSound n → (l c : ℕ) → CanSwap n l c → IsSwapped n (swap_cell n l c) l (cell_pins_at n l) (cell_pins n.cells c)

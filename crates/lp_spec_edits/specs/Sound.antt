@@ -1,5 +1,5 @@
 -- When the tables of an edited netlist are sound, when an edit may be made, and what it leaves as it was (own rule).
-use Rattle.std.specs.Prelude.{◌||◌, ◌≡◌, ◌<◌, ◌≤◌, ℕ, ◌==◌, nat_lt, Bool, true, false, ◌&&◌, [], map, length, Option, Some, slice_index_or}
+use Rattle.std.specs.Prelude.{◌||◌, ◌≡◌, ◌<◌, ◌≤◌, ℕ, ◌+◌, ◌==◌, nat_lt, Bool, true, false, ◌&&◌, [], map, length, Option, Some, slice_get, slice_index_or}
 use Rattle.std.specs.List.{list_all}
 use Rattle.lp_model.specs.declared.graph.Edge.{Edge as EdgeRow}
 use Rattle.lp_model.specs.declared.graph.EdgeFrom.TheVariants.{Node as FromNode, Const as FromConst}
@@ -14,7 +14,7 @@ use Rattle.lp_spec_bridge.specs.Tables.{is_behind}
 use Rattle.lp_model.specs.declared.graph.NodeName.TheVariants.{Added}
 use Rattle.lp_model.specs.declared.graph.WireKind.TheVariants.{Supply}
 use Rattle.lp_spec_edits.specs.Edits.{head_at, name_at}
-use Rattle.lp_spec_edits.specs.Net.{Net, cell_pins, pin_count, source_at, inst_at, edge_at, pin_at, drives, before, is_met, parent_at}
+use Rattle.lp_spec_edits.specs.Net.{Signal, CellPins, Net, cell_pins, pin_count, cell_pins_at, source_at, inst_at, edge_at, pin_at, drives, before, is_met, parent_at}
 
 -- ---- sound tables
 
@@ -153,3 +153,42 @@ pub record CanLead (n : Net) (e : ℕ) (b : Bool) : Type 0 where
   pub edge : edge_at n e ≡ Some row
   pub comes : row.from ≡ FromConst b
   pub room : 1 < n.room.nodes
+
+-- ---- another cell
+
+-- no two signal pins of a cell have one name
+abbrev pub HasOwnNames : CellPins → Type 0
+HasOwnNames c = (i j : ℕ) (x y : Signal) → slice_get c.signals i ≡ Some x → slice_get c.signals j ≡ Some y → x.name ≡ y.name → i ≡ j
+
+-- a cell has a signal pin of a name, which it drives or reads as another one does
+pub record HasTwin (c : CellPins) (x : Signal) : Type 0 where
+  pub place : ℕ
+  pub twin : Signal
+  pub there : slice_get c.signals place ≡ Some twin
+  pub name : twin.name ≡ x.name
+  pub drives : twin.drives ≡ x.drives
+
+-- the new cell has each signal pin of the old one, and the power and ground pins are open yet
+pub record CanSwap (n : Net) (l c : ℕ) : Type 0 where
+  pub leaf : l < length n.leaves
+  pub cell : c < length n.cells
+  pub old : HasOwnNames (cell_pins_at n l)
+  pub new : HasOwnNames (cell_pins n.cells c)
+  pub twins : (q : ℕ) (x : Signal) → slice_get (cell_pins_at n l).signals q ≡ Some x → HasTwin (cell_pins n.cells c) x
+  pub open_ : (q : ℕ) → length (cell_pins_at n l).signals ≤ q → pin_at n l q ≡ Unconnected
+  pub room : pin_count (cell_pins n.cells c) ≤ pin_count (cell_pins_at n l) + n.room.pins
+
+-- a cell instance drives the node
+abbrev pub is_of_leaf : ℕ → SourceRow → Bool
+is_of_leaf l (OfLeaf q m) = m.0 == l
+is_of_leaf l _ = false
+
+-- each pin that a cell has by the name of one of the old cell is joined as that one was, and drives what that one drove; all others are open
+pub record IsSwapped (n m : Net) (l : ℕ) (old new : CellPins) : Type 0 where
+  pub edited : IsEdited (λ k. is_of_leaf l (source_at n k)) no_entry (λ a q. a == l) n m
+  pub joins : (q r : ℕ) (x y : Signal) → slice_get old.signals q ≡ Some x → slice_get new.signals r ≡ Some y → y.name ≡ x.name → pin_at m l r ≡ pin_at n l q
+  pub sources :
+      (q r k : ℕ) (x y : Signal) → slice_get old.signals q ≡ Some x → slice_get new.signals r ≡ Some y → y.name ≡ x.name
+      → source_at n k ≡ OfLeaf q (record { 0 = l }) → source_at m k ≡ OfLeaf r (record { 0 = l })
+  pub fresh : (r : ℕ) (y : Signal) → slice_get new.signals r ≡ Some y → ((q : ℕ) (x : Signal) → slice_get old.signals q ≡ Some x → y.name ≡ x.name → ⊥) → pin_at m l r ≡ Unconnected
+  pub supplies : (q : ℕ) → length new.signals ≤ q → pin_at m l q ≡ Unconnected

@@ -1,5 +1,5 @@
 //! Laws of the edits of a netlist: each is the clause of a function that does nothing.
-ghost use Rattle.lp_spec_edits.specs.Laws.{CellsAdded, PinsConnected, WiresAdded, TopPortsAdded, NodesAssigned, InputsPunched, OutputsPunched, GapsBehind, GapsBefore, ConstantsLed, SoundIsClosed};
+ghost use Rattle.lp_spec_edits.specs.Laws.{CellsAdded, PinsConnected, WiresAdded, TopPortsAdded, NodesAssigned, InputsPunched, OutputsPunched, GapsBehind, GapsBefore, ConstantsLed, CellsSwapped, SoundIsClosed};
 
 /// A cell instance with open pins.
 pub fn cells_are_added()
@@ -37,6 +37,11 @@ pub fn gaps_open_behind()
 pub fn gaps_open_before()
     ensures nodes { GapsBefore }
     ensures constants { ConstantsLed }
+{}
+
+/// Another cell in the place of one.
+pub fn cells_are_swapped()
+    ensures { CellsSwapped }
 {}
 
 /// The tables of a sound netlist.

@@ -4,6 +4,6 @@
 mod laws;
 
 pub use laws::{
-    cells_are_added, gaps_open_before, gaps_open_behind, nodes_are_assigned, pins_are_connected,
-    ports_are_punched, sound_is_closed, wires_are_added,
+    cells_are_added, cells_are_swapped, gaps_open_before, gaps_open_behind, nodes_are_assigned,
+    pins_are_connected, ports_are_punched, sound_is_closed, wires_are_added,
 };
