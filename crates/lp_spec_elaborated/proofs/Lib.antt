@@ -1,0 +1,7 @@
+pub mod LaidOut
+pub mod Lists
+pub mod Numbers
+pub mod Pins
+pub mod Readers
+pub mod Single
+pub mod Sound
