@@ -24,7 +24,7 @@ use Rattle.lp_spec_bridge.specs.Keyed.{keys_of, node_at}
 use Rattle.lp_spec_bridge.specs.Elaborates.{Elaborates}
 use Rattle.lp_spec_bridge.specs.Walks.{is_looped_by}
 use Rattle.lp_spec_bridge.proofs.Loops.{looped_key}
-use Rattle.lp_wire_loops.specs.Reads.{from_node, source_reads, wire_reads, inner_node, IsFirstLoop}
+use Rattle.lp_wire_loops.specs.Reads.{from_node, source_reads, wire_reads, inner_node, HasWires, IsFirstLoop, IsWithin}
 use Rattle.lp_wire_loops.proofs.Along.{count, looped, loops}
 
 -- ---- what is read is a node
@@ -119,10 +119,21 @@ module _ (texts : List (List ℕ)) (s : Structure) (t : Tables) (e : Elaborates 
 
 -- ---- from what the calls ensure
 
-module _ (g : Graph) (graph : List (List ℕ)) (same : graph ≡ wire_reads g.edges g.nodes) (texts : List (List ℕ)) (s : Structure) (e : Elaborates texts s (tables_of g)) where
+module _ (g : Graph) (graph : List (List ℕ)) (same : graph ≡ wire_reads g.edges g.nodes) (texts : List (List ℕ)) (s : Structure) (w : HasWires texts s g) where
+  same_reads : graph ≡ wire_reads w.tables.edges w.tables.nodes
+  same_reads = same ∙ (λ i. wire_reads (w.edges i) (w.nodes i))
+
   pub told_none : (HasLoop graph → ⊥) → IsFirstLoop s None
-  told_none never = sym (none_first texts s (tables_of g) e (subst (λ r. HasLoop r → ⊥) same never))
+  told_none never = sym (none_first texts s w.tables w.elaborates (subst (λ r. HasLoop r → ⊥) same_reads never))
 
   pub told : (o : Option ℕ) → MatchOption o (HasLoop graph → ⊥) (IsFirstLooped graph) → IsFirstLoop s (inner_node o g.inner)
   told None never = told_none never
-  told (Some k) f = is_first texts s (tables_of g) e k (subst (λ r. IsFirstLooped r k) same f)
+  told (Some k) f = subst (λ n. IsFirstLoop s (inner_node (Some k) n)) (sym w.inner) (is_first texts s w.tables w.elaborates k (subst (λ r. IsFirstLooped r k) same_reads f))
+
+pub node_within : (o : Option ℕ) (inner : ℕ) → IsWithin inner (inner_node o inner)
+node_within None inner = tt
+node_within (Some k) inner = by (nat_lt k inner) refl
+  where
+    by : (v : Bool) → nat_lt k inner ≡ v → IsWithin inner (cond v (Some (record { 0 = k })) None)
+    by true h = ltb-true k inner h
+    by false h = tt

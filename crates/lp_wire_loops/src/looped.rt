@@ -1,8 +1,7 @@
 ghost use Rattle.std.specs.Prelude.{◌≡◌, ℕ, List, IfOk};
 ghost use Rattle.lp_spec_design.specs.Netlists.{Structure};
 ghost use Rattle.lp_spec_bridge.specs.Tables.{IsClosed, tables_of};
-ghost use Rattle.lp_spec_bridge.specs.Elaborates.{Elaborates};
-ghost use Rattle.lp_wire_loops.specs.Reads.{inner_node, IsFirstLoop};
+ghost use Rattle.lp_wire_loops.specs.Reads.{inner_node, HasWires, IsFirstLoop, IsWithin};
 
 use crate::reads::wire_reads;
 use lp_loops::first_looped;
@@ -30,7 +29,8 @@ fn inner_node(key: Option<usize>, inner: u32) -> Option<NodeId>
 #[tactic(auto, using(crate::proofs::Places::closed_reads, crate::proofs::Places::told_none, crate::proofs::Places::told))]
 pub fn first_wire_loop(alloc: Global, graph: &Graph) -> Result<Option<NodeId>, NoMemory>
     requires { IsClosed (tables_of graph.now) }
-    ensures { (texts : List (List ℕ)) (s : Structure) → Elaborates texts s (tables_of graph.now) → IfOk result (IsFirstLoop s) }
+    ensures first { (texts : List (List ℕ)) (s : Structure) → HasWires texts s graph.now → IfOk result (IsFirstLoop s) }
+    ensures within { IfOk result (IsWithin graph.now.inner) }
 {
     let reads = wire_reads(alloc, graph.edges.as_slice(), graph.nodes.as_slice())?;
     if is_ordered(alloc, &reads)? {
