@@ -1,0 +1,3 @@
+mod Ready
+pub mod Reporting
+mod Laying
